@@ -1,0 +1,4 @@
+pub mod Walk
+pub mod Found
+pub mod Tests
+pub mod Room
