@@ -24,6 +24,9 @@ no n = refused n Case (Row 0)
 abbrev pub unless : {X : Type 0} → Bool → ℕ → Outcome X → Outcome X
 unless b n o = cond b o (no n)
 
+abbrev pub states-fit : Sizes → RuleNumbers → Bool
+states-fit z n = ltb (n .from) (z .states) && ltb (n .to) (z .states)
+
 -- the argument fits its kind: 0 for a move, a clock for tests and assignments, a label for pushes and pops
 abbrev pub argument-fits : Sizes → ℕ → ℕ → Bool
 argument-fits z kind a =
@@ -50,7 +53,7 @@ rule n = record { from = n .from; to = n .to; action = action (n .kind) (n .argu
 -- the rule that eight numbers are read as, or why they are none
 abbrev pub read-rule : Sizes → RuleNumbers → Outcome Rule
 read-rule z n =
-    unless (ltb (n .from) (z .states) && ltb (n .to) (z .states)) 4
+    unless (states-fit z n) 4
     (unless (leb (n .kind) 4) 5
     (unless (argument-fits z (n .kind) (n .argument)) 6
     (unless (bounds-fit n) 7
