@@ -51,8 +51,12 @@ wider n k (Assign j) h f = omega arith
 wider n k (Push l) h f = tt
 wider n k (Pop l) h f = tt
 
+-- the rule at a place is lawful
+pub lawful-at : (z : Sizes) (rs : List Rule) (k : ℕ) (r : Rule) → k < length rs → r ≡ getD rs k r → all-lawful z rs ≡ true → lawful z r ≡ true
+lawful-at z rs k r l i e = all-true (lawful z) rs k r (l, λ d. getD-default rs k d r l ∙ sym i) e
+
 pub all-clocked : (z : Sizes) (n : ℕ) (rs : List Rule) → z .clocks ≤ n → all-lawful z rs ≡ true → All-clocked n rs
-all-clocked z n rs h e k r l i = wider (z .clocks) n (r .action) h (lawful-clock z r (all-true (lawful z) rs k r (l, λ d. getD-default rs k d r l ∙ sym i) e))
+all-clocked z n rs h e k r l i = wider (z .clocks) n (r .action) h (lawful-clock z r (lawful-at z rs k r l i e))
 
 -- and still does once a clock is inserted
 
