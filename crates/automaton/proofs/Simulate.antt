@@ -66,12 +66,12 @@ zeros-ins zero n h = refl
 zeros-ins (suc p) zero h = absurd (not-suc-le-zero h)
 zeros-ins (suc p) (suc n) h = ap (λ t. 0 ∷ t) (zeros-ins p n (le-of-suc-le-suc h))
 
-in-map : {X Y : Type 0} (f : X → Y) (xs : List X) (k : ℕ) (x : X) → Sits xs k x → Sits (map f xs) k (f x)
+pub in-map : {X Y : Type 0} (f : X → Y) (xs : List X) (k : ℕ) (x : X) → Sits xs k x → Sits (map f xs) k (f x)
 in-map f [] k x s = absurd (not-suc-le-zero (s .0))
 in-map f (y ∷ ys) zero x s = (omega arith, λ d. ap f (s .1 y))
 in-map f (y ∷ ys) (suc k) x s = let r = in-map f ys k x (le-of-suc-le-suc (s .0), s .1) in (omega (arith, r .0), r .1)
 
-in-map-back : {X Y : Type 0} (f : X → Y) (xs : List X) (k : ℕ) (y : Y) → Sits (map f xs) k y → (x : X) × Sits xs k x × (y ≡ f x)
+pub in-map-back : {X Y : Type 0} (f : X → Y) (xs : List X) (k : ℕ) (y : Y) → Sits (map f xs) k y → (x : X) × Sits xs k x × (y ≡ f x)
 in-map-back f [] k y s = absurd (not-suc-le-zero (s .0))
 in-map-back f (x ∷ xs) zero y s = (x, (omega arith, λ d. refl), sym (s .1 y))
 in-map-back f (x ∷ xs) (suc k) y s = let r = in-map-back f xs k y (le-of-suc-le-suc (s .0), s .1) in (r .0, (omega (arith, r .1 .0), r .1 .1), r .2)

@@ -17,7 +17,6 @@ ghost use Rattle.automaton.specs.Models.{automaton};
 ghost use Rattle.automaton.specs.Edits.{sizes as sizes-of, Fits-in, fresh, sizes-fit, ends-fit, open-outcome, open-after, add-outcome, add-after, remove-outcome, remove-after, retarget-outcome, retarget-after, insert-outcome, insert-after};
 use super::model::Model;
 use super::model::Opening;
-use super::reading::refuse;
 use super::rule::Rule;
 use super::rule::RuleNumbers;
 use super::rule::Sizes;
@@ -106,10 +105,10 @@ impl Model {
         ensures kept { λ r. ⌜ (isOk r ≡ false → now (self .exit) ≡ now (self .entry)) ⌝ }
     {
         if !sizes_fit(o) {
-            return Err(refuse(Refusal::SizeOutOfRange));
+            return Err(Fault::of_call(Refusal::SizeOutOfRange));
         }
         if !ends_fit(o) {
-            return Err(refuse(Refusal::NoSuchState));
+            return Err(Fault::of_call(Refusal::NoSuchState));
         }
         self.rules.items.truncate(0);
         self.sizes = Sizes {
@@ -128,7 +127,7 @@ impl Model {
         ensures fits { λ r. ⌜ made r (Fits-in (automaton (now (self .entry))) n) ⌝ }
     {
         if self.rules.items.len() >= RULES {
-            return Err(refuse(Refusal::RuleTableFull));
+            return Err(Fault::of_call(Refusal::RuleTableFull));
         }
         Rule::read(self.sizes, n)
     }
@@ -153,7 +152,7 @@ impl Model {
         ensures kept { λ r. ⌜ (isOk r ≡ false → now (self .exit) ≡ now (self .entry)) ⌝ }
     {
         if place >= self.rules.items.len() as u64 {
-            return Err(refuse(Refusal::NoSuchRule));
+            return Err(Fault::of_call(Refusal::NoSuchRule));
         }
         let _ = self.rules.items.remove(place as usize);
         Ok(())
@@ -165,7 +164,7 @@ impl Model {
         ensures kept { λ r. ⌜ (isOk r ≡ false → now (self .exit) ≡ now (self .entry)) ⌝ }
     {
         if target >= self.sizes.states as u64 {
-            return Err(refuse(Refusal::NoSuchState));
+            return Err(Fault::of_call(Refusal::NoSuchState));
         }
         self.target = target as u8;
         Ok(())
@@ -179,10 +178,10 @@ impl Model {
         ensures kept { λ r. ⌜ (isOk r ≡ false → now (self .exit) ≡ now (self .entry)) ⌝ }
     {
         if self.sizes.clocks >= 3 {
-            return Err(refuse(Refusal::ClocksFull));
+            return Err(Fault::of_call(Refusal::ClocksFull));
         }
         if place > self.sizes.clocks as u64 {
-            return Err(refuse(Refusal::NoSuchPlace));
+            return Err(Fault::of_call(Refusal::NoSuchPlace));
         }
         self.rules.raise(place as u8);
         self.sizes.clocks += 1;

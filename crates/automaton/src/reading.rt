@@ -3,9 +3,7 @@
 ghost use mathlib.Core.Path.{_≡_};
 ghost use mathlib.Core.Bool.{true};
 ghost use Prim.Native.Nat.{_≤_};
-ghost use Rattle.fault.specs.Faults.{outcome, told, number, layer};
-ghost use Rattle.fault.specs.Faults.Outcome.{refused};
-ghost use Rattle.fault.specs.declared.Place.the-variants.{Row};
+ghost use Rattle.fault.specs.Faults.{outcome};
 ghost use Rattle.automaton.specs.declared.rule.Rule.{Rule};
 ghost use Rattle.automaton.specs.Rules.{states-fit, argument-fits, bounds-fit, action as acting, interval as interval-of, upper as upper-of, read-rule};
 ghost use Rattle.automaton.specs.Lawful.{Reads};
@@ -16,18 +14,7 @@ use super::rule::Sizes;
 use abstraction::Interval;
 use abstraction::Upper;
 use fault::Fault;
-use fault::Place;
 use fault::Refusal;
-
-// A refusal of a call, outside of any row.
-pub(crate) fn refuse(refusal: Refusal) -> Fault
-    ensures { λ r. ⌜ told {X = Rule} r ≡ refused (number refusal) (layer refusal) (Row 0) ⌝ }
-{
-    Fault {
-        refusal,
-        place: Place::Row(0),
-    }
-}
 
 fn states_fit(sizes: Sizes, n: RuleNumbers) -> bool
     ensures { λ r. ⌜ r ≡ states-fit sizes n ⌝ }
@@ -80,16 +67,16 @@ fn decode(sizes: Sizes, n: RuleNumbers) -> Result<Rule, Fault>
     ensures { λ r. ⌜ outcome r ≡ read-rule sizes n ⌝ }
 {
     if !states_fit(sizes, n) {
-        return Err(refuse(Refusal::RuleStateUnknown));
+        return Err(Fault::of_call(Refusal::RuleStateUnknown));
     }
     if n.kind > 4 {
-        return Err(refuse(Refusal::KindUnknown));
+        return Err(Fault::of_call(Refusal::KindUnknown));
     }
     if !argument_fits(sizes, n.kind, n.argument) {
-        return Err(refuse(Refusal::ArgumentUnfit));
+        return Err(Fault::of_call(Refusal::ArgumentUnfit));
     }
     if !bounds_fit(n) {
-        return Err(refuse(Refusal::BoundUnfit));
+        return Err(Fault::of_call(Refusal::BoundUnfit));
     }
     let upper = upper(n.upper_flag, n.upper as u8);
     let interval = Interval {

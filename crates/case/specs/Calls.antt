@@ -1,7 +1,7 @@
-use mathlib.Core.Bool.{Bool, cond}
+use mathlib.Core.Bool.{_&&_}
 use mathlib.Core.List.{List, []}
 use Prim.Native.Nat.{ℕ}
-use lib.Dec.{eqb, leb}
+use lib.Dec.{leb}
 use lib.ListN.{replicate}
 use Rattle.std.specs.shelf.Maps.{nth}
 use Rattle.std.specs.declared.option.Option.{Option}
@@ -10,13 +10,14 @@ use Rattle.fault.specs.Faults.{Outcome}
 use Rattle.fault.specs.Faults.Outcome.{accepted, refused}
 use Rattle.automaton.specs.Runs.{Automaton, Configuration}
 use Rattle.automaton.specs.Rules.{no, unless}
-use Rattle.automaton.specs.Edits.{settle, fresh}
+use Rattle.automaton.specs.Edits.{settle, done, fresh, open-outcome, open-after, add-outcome, add-after, remove-outcome, remove-after, retarget-outcome, retarget-after, insert-outcome, insert-after}
+use Rattle.automaton.specs.declared.model.Opening.{Opening}
+use Rattle.automaton.specs.declared.rule.RuleNumbers.{RuleNumbers}
 use Rattle.automaton.specs.declared.rule.Rule.{Rule}
-use Rattle.case.specs.Views.{View, Running}
+use Rattle.case.specs.Views.{View, Running, arrived}
 use Rattle.case.specs.Views.Running.{idle, at}
 use Rattle.case.specs.Steps.{delay-check, waited, fire-check, fired}
-use Rattle.case.specs.declared.case.Standing.{Standing}
-use Rattle.case.specs.declared.case.Standing.the-variants.{Undecided, Reachable, Unreachable}
+use Rattle.case.specs.declared.case.Standing.the-variants.{Undecided}
 
 -- a new case: one state, no run, undecided
 abbrev pub new-case : View
@@ -30,9 +31,25 @@ edited m = record { model = m; run = idle; standing = Undecided }
 abbrev pub edit-after : {X : Type 0} → Outcome X → Automaton → View → View
 edit-after o m w = settle o (edited m) w
 
--- a run that stands in the target makes the case reachable
-abbrev pub arrived : Automaton → ℕ → Standing → Standing
-arrived m q s = cond (eqb q (m .target)) Reachable s
+abbrev pub open-view : Opening → View → View
+open-view o w = edit-after (open-outcome o) (open-after o (w .model)) w
+
+abbrev pub add-view : RuleNumbers → View → View
+add-view n w = edit-after (add-outcome n (w .model)) (add-after n (w .model)) w
+
+abbrev pub remove-view : ℕ → View → View
+remove-view k w = edit-after (remove-outcome k (w .model)) (remove-after k (w .model)) w
+
+abbrev pub retarget-view : ℕ → View → View
+retarget-view q w = edit-after (retarget-outcome q (w .model)) (retarget-after q (w .model)) w
+
+abbrev pub insert-view : ℕ → View → View
+insert-view p w = edit-after (insert-outcome p (w .model)) (insert-after p (w .model)) w
+
+-- an outcome without its result
+abbrev pub void : {X : Type 0} → Outcome X → Outcome (Unit {0})
+void (accepted x) = done
+void (refused n l p) = refused n l p
 
 -- an accepted step of the run to the configuration c
 abbrev pub moved : View → ℕ → Configuration → View
@@ -46,7 +63,7 @@ answered (refused n l p) q = refused n l p
 -- beginning: a scale of 1 to 1,000,000; all clocks 0, an empty stack, in the start state
 
 abbrev pub begin-check : ℕ → Outcome (Unit {0})
-begin-check D = unless (cond (leb 1 D) (leb D 1000000) (leb 1 D)) 11 (accepted tt)
+begin-check D = unless (leb 1 D && leb D 1000000) 11 done
 
 abbrev pub start-of : Automaton → Configuration
 start-of m = record { state = m .start; clocks = replicate (m .clocks) 0; stack = [] }

@@ -1,3 +1,5 @@
 pub mod Views
 pub mod Steps
 pub mod Calls
+pub mod Asking
+pub mod Laws

@@ -116,3 +116,11 @@ fired (Test k) q v c = record { state = q; clocks = c .clocks; stack = c .stack 
 fired (Assign k) q v c = record { state = q; clocks = set (c .clocks) k v; stack = c .stack }
 fired (Push l) q v c = record { state = q; clocks = c .clocks; stack = (record { label = l; age = v }) ∷ c .stack }
 fired (Pop l) q v c = record { state = q; clocks = c .clocks; stack = below (c .stack) }
+
+-- the actions that change neither clocks nor stack
+abbrev pub Passive : Action → Type 0
+Passive Move = Unit {0}
+Passive (Test k) = Unit {0}
+Passive (Assign k) = ⊥
+Passive (Push l) = ⊥
+Passive (Pop l) = ⊥

@@ -1,8 +1,11 @@
 // Cases: a model, its edits, its runs and its standing.
 
+mod calls;
 mod case;
+mod moves;
 mod run;
 mod stack;
+mod symbols;
 
 pub use case::Case;
 pub use case::Standing;

@@ -3,6 +3,7 @@
 ghost use mathlib.Core.Path.{_≡_};
 ghost use Rattle.fault.specs.Faults.{number as numbered, layer as layered};
 ghost use Rattle.fault.specs.declared.Refusal.{Refusal};
+ghost use Rattle.fault.specs.declared.Place.the-variants.{Row};
 
 // What was wrong, one variant for each refusal, in the order of their numbers.
 #[derive(Clone, Copy)]
@@ -105,6 +106,18 @@ impl Refusal {
             | Refusal::EntryInTarget
             | Refusal::NotClosed => Layer::Evidence,
             _ => Layer::Case,
+        }
+    }
+}
+
+impl Fault {
+    // A refusal of a call, outside of any row.
+    pub fn of_call(refusal: Refusal) -> Fault
+        ensures { λ r. ⌜ r ≡ record { refusal = refusal; place = Row 0 } ⌝ }
+    {
+        Fault {
+            refusal,
+            place: Place::Row(0),
         }
     }
 }

@@ -1,5 +1,6 @@
 use borrow.Author.Needs.{needs}
-use mathlib.Core.Path.{_≡_, sym, _∙_}
+use mathlib.Core.Path.{_≡_, sym, ap, _∙_}
+use Rattle.fault.specs.Faults.{told}
 use Prim.Native.Nat.{_≤_, _<_}
 use lib.ListN.{length}
 use Rattle.automaton.specs.Models.{automaton}
@@ -9,7 +10,7 @@ use Rattle.automaton.proofs.model.Model.read.Needs as need
 pub returns-then-len-ge-RULES : need.returns-then-len-ge-RULES
 returns-then-len-ge-RULES c =
     let h : 64 ≤ length (c .args .self .now .rules .items .items) = search needs in
-    record { answer = c .refuse .ensures ∙ sym (full (c .args .n) (automaton (c .args .self .now)) h); fits = tt }
+    record { answer = ap told (c .of-call .ensures) ∙ sym (full (c .args .n) (automaton (c .args .self .now)) h); fits = tt }
 
 pub returns : need.returns
 returns c =
