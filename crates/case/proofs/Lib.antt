@@ -1,3 +1,4 @@
 pub mod Stacks
 pub mod Moving
 pub mod Transitions
+pub mod Past

@@ -130,7 +130,7 @@ does D q v i (Assign k) c f p s t = ((inside-true D i v t, refl, refl), leb-true
 does D q v i (Push l) c f p s t = ((inside-true D i v t, refl, refl), (leb-true v limit f, ltb-true _ 128 s))
 does D q v i (Pop l) c f p s t = ((age-of (top (c .stack)), inside-true D i _ t, refl, pop-top l (c .stack) p), tt)
 
-fired-state : (a : Action) (q v : ℕ) (c : Configuration) → fired a q v c .state ≡ q
+pub fired-state : (a : Action) (q v : ℕ) (c : Configuration) → fired a q v c .state ≡ q
 fired-state Move q v c = refl
 fired-state (Test k) q v c = refl
 fired-state (Assign k) q v c = refl
@@ -183,7 +183,7 @@ unchecked D v b c r (w1, w2, w3) l =
       sym (same-configuration c (fired (r .action) (r .to) v b) (w2 ∙ sym (fired-state (r .action) (r .to) v b)) y t),
     )
 
-nth-sits : {X : Type 0} (xs : List X) (k : ℕ) (x : X) → nth xs k ≡ Some x → Sits xs k x
+pub nth-sits : {X : Type 0} (xs : List X) (k : ℕ) (x : X) → nth xs k ≡ Some x → Sits xs k x
 nth-sits [] k x h = absurd (let z : _≡_ {A = ℕ} 0 1 = cc in omega arith)
 nth-sits (y ∷ ys) zero x h = let e : y ≡ x = cc in (omega arith, λ d. e)
 nth-sits (y ∷ ys) (suc k) x h = let s = nth-sits ys k x h in (omega (arith, s .0), s .1)

@@ -3,3 +3,4 @@ pub mod Steps
 pub mod Calls
 pub mod Asking
 pub mod Laws
+pub mod History

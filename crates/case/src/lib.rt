@@ -2,6 +2,7 @@
 
 mod calls;
 mod case;
+mod history;
 mod moves;
 mod run;
 mod stack;
@@ -9,6 +10,10 @@ mod symbols;
 
 pub use case::Case;
 pub use case::Standing;
+pub use history::Call;
+pub use history::Reply;
+pub use history::Turn;
+pub use history::attend;
 pub use run::Progress;
 pub use run::Run;
 pub use stack::Stack;
