@@ -1,6 +1,7 @@
 // Dense-timed pushdown automata: rules, the rule table and the model that users edit.
 
 mod edits;
+mod looks;
 mod model;
 mod reading;
 mod rule;

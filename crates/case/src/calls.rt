@@ -11,7 +11,7 @@ ghost use Rattle.automaton.specs.Models.{automaton};
 ghost use Rattle.automaton.specs.Edits.{open-outcome, add-outcome, remove-outcome, retarget-outcome, insert-outcome};
 ghost use Rattle.case.specs.Views.{view};
 ghost use Rattle.case.specs.Laws.{Begins, Delays, Fires-so};
-ghost use Rattle.case.specs.Calls.{new-case, open-view, add-view, remove-view, retarget-view, insert-view, void, begin-outcome, begin-after, delay-outcome, delay-after, fire-outcome, fire-after, edited};
+ghost use Rattle.case.specs.Calls.{new-case, open-view, add-view, remove-view, retarget-view, insert-view, void, begin-outcome, begin-after, delay-outcome, delay-after, fire-outcome, fire-after};
 use super::case::Case;
 use super::case::Standing;
 use super::moves::Asked;
@@ -42,14 +42,6 @@ impl Case {
             stack,
             standing: Standing::Undecided,
         })
-    }
-
-    // An accepted edit ends the run and leaves the case undecided.
-    fn forget(&mut self)
-        ensures { λ _. ⌜ view (now (self .exit)) ≡ edited (automaton (now (self .entry) .model)) ⌝ ∗ ⌜ automaton (now (self .exit) .model) ≡ automaton (now (self .entry) .model) ⌝ }
-    {
-        self.run = Run::Idle;
-        self.standing = Standing::Undecided;
     }
 
     // Sets all sizes, start and target, with no rules.

@@ -15,7 +15,7 @@ ghost use Rattle.std.specs.Results.{isOk};
 ghost use Rattle.case.specs.Views.{Later, configuration, running, view, now-at, stood};
 ghost use Rattle.automaton.specs.declared.rule.Action.the-variants.{Assign, Push, Pop};
 ghost use Rattle.case.specs.Asking.{Asks, step-outcome, step-after};
-ghost use Rattle.case.specs.Calls.{delay-run, delayed, fire-run, fired-run};
+ghost use Rattle.case.specs.Calls.{edited, delay-run, delayed, fire-run, fired-run};
 ghost use Rattle.case.specs.Views.Running.{at as stands-at};
 ghost use Rattle.case.specs.Steps.{clock-fits, delay-fits, delay-check, waited, value-fits as value-fitting, measured as measuring, time-fits, fire-check, fired, push-fits, Passive};
 use super::case::Case;
@@ -122,6 +122,14 @@ pub(crate) enum Asked {
 }
 
 impl Case {
+    // An accepted edit ends the run and leaves the case undecided.
+    pub(crate) fn forget(&mut self)
+        ensures { λ _. ⌜ view (now (self .exit)) ≡ edited (automaton (now (self .entry) .model)) ⌝ ∗ ⌜ automaton (now (self .exit) .model) ≡ automaton (now (self .entry) .model) ⌝ }
+    {
+        self.run = Run::Idle;
+        self.standing = Standing::Undecided;
+    }
+
     // The run stands there now; in the target it settles the case.
     pub(crate) fn arrive(&mut self, p: Progress)
         ensures { λ _. ⌜ now (self .exit) ≡ stood p (now (self .entry)) ⌝ }
