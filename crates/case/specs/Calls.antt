@@ -17,7 +17,7 @@ use Rattle.automaton.specs.declared.rule.Rule.{Rule}
 use Rattle.case.specs.Views.{View, Running, arrived}
 use Rattle.case.specs.Views.Running.{idle, at}
 use Rattle.case.specs.Steps.{delay-check, waited, fire-check, fired}
-use Rattle.case.specs.declared.case.Standing.the-variants.{Undecided}
+use Rattle.case.specs.declared.case.Standing.the-variants.{Undecided, Unreachable}
 
 -- a new case: one state, no run, undecided
 abbrev pub new-case : View
@@ -59,6 +59,11 @@ moved w D c = record { model = w .model; run = at D c; standing = arrived (w .mo
 abbrev pub answered : Outcome (Unit {0}) → ℕ → Outcome ℕ
 answered (accepted u) q = accepted q
 answered (refused n l p) q = refused n l p
+
+-- judging a table: accepted, it makes the case unreachable; the run stays
+
+abbrev pub judge-view : Outcome (Unit {0}) → View → View
+judge-view o w = settle o (record { model = w .model; run = w .run; standing = Unreachable }) w
 
 -- beginning: a scale of 1 to 1,000,000; all clocks 0, an empty stack, in the start state
 

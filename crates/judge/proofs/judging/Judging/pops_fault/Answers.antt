@@ -1,0 +1,12 @@
+use borrow.Author.Needs.{needs}
+use Rattle.judge.proofs.judging.Judging.pops_fault.Needs as need
+use Rattle.abstraction.proofs.Walk.{fault-on, fault-off, first-end}
+
+pub returns-then-not-return-closed : need.returns-then-not-return-closed
+returns-then-not-return-closed g c = search (needs, fault-off)
+
+pub loop-n-again : need.loop-n-again
+loop-n-again g c = search (needs, fault-on)
+
+pub returns : need.returns
+returns g c = search (needs, first-end)
