@@ -2,6 +2,7 @@
 
 mod calls;
 mod case;
+mod evidence;
 mod history;
 mod moves;
 mod run;
