@@ -65,7 +65,13 @@ fn pop_after(case: &mut Case, units: u64) -> u64 {
 #[cfg(test)]
 mod tests {
     use super::*;
+    use abstraction::Anything;
+    use abstraction::Listing;
+    use abstraction::Untimed;
+    use abstraction::UntimedAbstraction;
     use case::Standing;
+    use fault::Place;
+    use judge::Entry;
     use std::test::*;
 
     fn is(s: Standing, n: u8) -> bool {
@@ -172,5 +178,95 @@ mod tests {
         }
         check(at(case.fire(63, 7)) == 116)?;
         check(at(case.fire(64, 7)) == 108)
+    }
+
+    fn row(root: u64, state: u64, label: u64) -> Entry<Anything> {
+        Entry {
+            root,
+            state,
+            label,
+            shape: Anything,
+        }
+    }
+
+    // The number and the entry of a refusal, 0 and 0 where the table was accepted.
+    fn verdict(r: Result<(), Fault>) -> (u8, u64) {
+        match r {
+            Ok(()) => (0, 0),
+            Err(fault) => match fault.place {
+                Place::Table {
+                    entry,
+                    rule: _,
+                    above: _,
+                } => (fault.refusal.number(), entry),
+                _ => (fault.refusal.number(), 9999),
+            },
+        }
+    }
+
+    // Two states, no rules, the second one the target.
+    fn apart(case: &mut Case) -> u8 {
+        code(case.open(sized(2, 0, 1, 1, 0)))
+    }
+
+    fn judged(
+        case: &mut Case,
+        table: &[Entry<Anything>],
+        scratch: &mut [u8],
+        listing: &mut Listing<Anything>,
+    ) -> (u8, u64) {
+        verdict(case.judge(&Untimed::new(), table, 0, scratch, listing))
+    }
+
+    #[test]
+    fn small_tables(rt: LibcRuntime) -> Result<(), Fail> {
+        let mut case = Case::new(rt.alloc())?;
+        let mut listing = Listing::new(rt.alloc())?;
+        let mut scratch = [0u8; 4];
+        check(apart(&mut case) == 0)?;
+        check(judged(&mut case, &[], &mut scratch, &mut listing) == (18, 2048))?;
+        check(judged(&mut case, &[row(1, 0, 0)], &mut scratch, &mut listing) == (19, 0))?;
+        check(judged(&mut case, &[row(0, 0, 1)], &mut scratch, &mut listing) == (20, 0))?;
+        let other = [row(0, 0, 0), row(0, 0, 1)];
+        check(judged(&mut case, &other, &mut scratch, &mut listing) == (19, 1))?;
+        let target = [row(0, 0, 0), row(0, 1, 0)];
+        check(judged(&mut case, &target, &mut scratch, &mut listing) == (21, 1))?;
+        check(is(case.standing(), 0))?;
+        check(judged(&mut case, &[row(0, 0, 0)], &mut scratch, &mut listing) == (0, 0))?;
+        check(is(case.standing(), 2))
+    }
+
+    // 2,048 entries with as many bytes of scratch, and no more.
+    #[test]
+    fn long_tables(rt: LibcRuntime) -> Result<(), Fail> {
+        let mut case = Case::new(rt.alloc())?;
+        let mut listing = Listing::new(rt.alloc())?;
+        let mut table = Vec::new(rt.alloc());
+        for _ in 0..2049u16 {
+            table.push(row(0, 0, 0))?;
+        }
+        let mut scratch = [0u8; 2049];
+        check(apart(&mut case) == 0)?;
+        check(table.len() == 2049)?;
+        check(judged(&mut case, &table, &mut scratch, &mut listing) == (18, 2048))?;
+        check(
+            judged(
+                &mut case,
+                &table[0..2048],
+                &mut scratch[0..2047],
+                &mut listing,
+            )
+                == (18, 2048),
+        )?;
+        check(
+            judged(
+                &mut case,
+                &table[0..2048],
+                &mut scratch[0..2048],
+                &mut listing,
+            )
+                == (0, 0),
+        )?;
+        check(is(case.standing(), 2))
     }
 }

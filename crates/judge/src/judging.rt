@@ -1,8 +1,6 @@
 // A claim that a table keeps the target from all runs of a model, and how it is judged.
 
 ghost use mathlib.Core.Path.{_≡_};
-ghost use Prim.Native.Nat.{_≤_, _<_};
-ghost use lib.ListN.{length};
 ghost use Rattle.judge.specs.Judged.{takes as taking, taken as being-taken, all-taken};
 ghost use Rattle.judge.specs.Judgings.{claim-of};
 use super::entry::Entry;

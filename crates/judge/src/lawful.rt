@@ -1,11 +1,10 @@
 // Whether a table is lawful, and the verdict.
 
 ghost use mathlib.Core.Path.{_≡_};
-ghost use mathlib.Core.Bool.{Bool};
 ghost use lib.ListN.{length};
 ghost use Rattle.std.specs.declared.result.Result.the-variants.{Err};
 ghost use Rattle.fault.specs.Faults.{outcome};
-ghost use Rattle.judge.specs.Judged.{action-fits, rules-fit, sizes-fit, entry-lawful, lawful-fault, begins as beginning, table-begins, target-fault, judged};
+ghost use Rattle.judge.specs.Judged.{action-fits, rules-fit, sizes-fit, entry-lawful, lawful-fault, table-begins, target-fault, judged};
 ghost use Rattle.judge.specs.Judgings.{claim-of};
 use super::closure::at_entry;
 use super::entry::Entry;

@@ -1,0 +1,15 @@
+pub mod Ways
+pub mod Sound
+pub mod Complete
+pub mod Example
+pub mod Joins
+pub mod Fill
+pub mod Shuts
+pub mod Picks
+pub mod Bound
+pub mod Ties
+pub mod Project
+pub mod Joining
+pub mod Count
+pub mod Turning
+pub mod Law

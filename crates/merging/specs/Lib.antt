@@ -1,0 +1,4 @@
+pub mod Ways
+pub mod Pop
+pub mod Grid
+pub mod Law

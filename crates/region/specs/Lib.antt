@@ -1,0 +1,4 @@
+pub mod Asked
+pub mod Listed
+pub mod Laws
+pub mod Regions

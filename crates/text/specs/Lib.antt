@@ -1,0 +1,4 @@
+pub mod Records
+pub mod Calls
+pub mod Documents
+pub mod Written
