@@ -245,28 +245,14 @@ mod tests {
         for _ in 0..2049u16 {
             table.push(row(0, 0, 0))?;
         }
-        let mut scratch = [0u8; 2049];
+        let mut scratch = [0u8; 2048];
+        let mut short = [0u8; 2047];
         check(apart(&mut case) == 0)?;
         check(table.len() == 2049)?;
+        let most = &table[0..2048];
         check(judged(&mut case, &table, &mut scratch, &mut listing) == (18, 2048))?;
-        check(
-            judged(
-                &mut case,
-                &table[0..2048],
-                &mut scratch[0..2047],
-                &mut listing,
-            )
-                == (18, 2048),
-        )?;
-        check(
-            judged(
-                &mut case,
-                &table[0..2048],
-                &mut scratch[0..2048],
-                &mut listing,
-            )
-                == (0, 0),
-        )?;
+        check(judged(&mut case, most, &mut short, &mut listing) == (18, 2048))?;
+        check(judged(&mut case, most, &mut scratch, &mut listing) == (0, 0))?;
         check(is(case.standing(), 2))
     }
 }
