@@ -1,3 +1,5 @@
+#![tactic(auto)]
+
 // What an abstraction of stack frames answers and owes, and the smallest one.
 
 ghost use Rattle.std.specs.Prelude.{◌≡◌, ℕ, ◌≤◌, true, List, [], ◌∷◌, length, IfOk};

@@ -1,3 +1,5 @@
+#![tactic(auto)]
+
 // Dense-timed pushdown automata: rules, the rule table and the model that users edit.
 
 mod edits;

@@ -1,3 +1,5 @@
+#![tactic(auto)]
+
 // Cases: a model, its edits, its runs and its standing.
 
 mod calls;

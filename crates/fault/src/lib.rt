@@ -1,3 +1,5 @@
+#![tactic(auto)]
+
 // Every way in which the checker says no: which refusal, in which layer, at which place.
 
 ghost use Rattle.std.specs.Prelude.{◌≡◌};

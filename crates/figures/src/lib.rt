@@ -1,3 +1,5 @@
+#![tactic(auto)]
+
 // Worked figures: a proved table about the definitions, and boundaries run through the calls.
 
 ghost use Rattle.std.specs.Prelude.{◌≡◌};

@@ -1,3 +1,5 @@
+#![tactic(auto)]
+
 // A vendor's abstraction, as an example: of each stack frame it remembers only how old the symbol
 // on top is at least. Time lets ages grow, so the bound stays, and a pop whose interval ends below it
 // cannot happen.

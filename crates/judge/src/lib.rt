@@ -1,3 +1,5 @@
+#![tactic(auto)]
+
 // Closed tables of summaries over any abstraction: evidence that no run of a model reaches its target.
 
 ghost use Rattle.std.specs.Prelude.{◌≡◌, [], length};

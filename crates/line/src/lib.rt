@@ -1,3 +1,5 @@
+#![tactic(auto)]
+
 // Writes an answer as a line of words and numbers into a lent buffer.
 
 ghost use Rattle.std.specs.Prelude.{◌≡◌, ◌+◌, ◌<◌, ◌≤◌, [], ◌∷◌, length, decimal};

@@ -1,3 +1,5 @@
+#![tactic(auto)]
+
 // The pop of two regions: the frame above is taken away, and the frame below goes on.
 
 ghost use Rattle.std.specs.Prelude.{◌≡◌, ◌+◌, ◌*◌, ◌<◌, ◌≤◌, min, true, false, ◌&&◌, map, length, slice_index, slice_index_or, slice_set};

@@ -1,3 +1,5 @@
+#![tactic(auto)]
+
 // Items with whole parts and ranked fractions, and regions of them: their rotation, the closing up of
 // their ranks, and lists that hold each region once.
 

@@ -1,3 +1,5 @@
+#![tactic(auto)]
+
 // Regions of the values of a frame: whole parts up to a ceiling and the order of the fractions. What
 // comes of a region by time, tests, assignments, pushes and pops is listed, each region once.
 

@@ -1,3 +1,5 @@
+#![tactic(auto)]
+
 // Tests of the regions: what they list is held against concrete values.
 
 #[cfg(test)]

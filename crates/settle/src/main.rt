@@ -1,3 +1,5 @@
+#![tactic(auto)]
+
 // Reads a text from standard input, and prints one line for each of its objects.
 
 ghost use Rattle.std.specs.Prelude.{◌≤◌, length, IfOk};

@@ -1,3 +1,5 @@
+#![tactic(auto)]
+
 // Texts: their objects, the calls that these ask for, and what each object comes to.
 
 mod asks;

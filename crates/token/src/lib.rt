@@ -1,3 +1,5 @@
+#![tactic(auto)]
+
 // The tokens of a text, and a reader that goes through a lent text without copying it.
 
 mod bytes;

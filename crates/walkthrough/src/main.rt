@@ -1,3 +1,5 @@
+#![tactic(auto)]
+
 // One real task through the calls, told in plain words: an approver delegates, the delegate
 // delegates further, and every open delegation has to be signed within a day. Can it come to a
 // payment without the second signature?
