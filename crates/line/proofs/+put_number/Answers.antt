@@ -2,17 +2,17 @@ use Rattle.std.proofs.Common.{arith, rules}
 use Rattle.line.proofs.Joins.{short, longer, one, more}
 use Rattle.line.proofs.+put_number.Goals as goal
 
-pub put-digit-requires : goal.put-digit-requires
-put-digit-requires t c = (omega (arith, short c.args.n c.if-n-lt10.true (omega arith)), c.if-n-lt10.true)
+pub put_digit-requires : goal.put_digit-requires
+put_digit-requires t c = (omega (arith, short c.args.n c.if-n-lt10.true (omega arith)), c.if-n-lt10.true)
 
 pub returns-then-n-lt10 : goal.returns-then-n-lt10
-returns-then-n-lt10 t c = one c.args.n c.if-n-lt10.true c.put-digit.ensures
+returns-then-n-lt10 t c = one c.args.n c.if-n-lt10.true c.put_digit.ensures
 
-pub put-number-at-requires : goal.put-number-at-requires
-put-number-at-requires t c = (search rules, omega (arith, longer c.args.n c.if-n-lt10.false (omega arith)))
+pub put_number-at-requires : goal.put_number-at-requires
+put_number-at-requires t c = (search rules, omega (arith, longer c.args.n c.if-n-lt10.false (omega arith)))
 
-pub put-digit-requires-2 : goal.put-digit-requires-2
-put-digit-requires-2 t c = (omega (arith, longer c.args.n c.if-n-lt10.false (omega arith), c.put-number-at.ensures.ends), search rules)
+pub put_digit-requires-2 : goal.put_digit-requires-2
+put_digit-requires-2 t c = (omega (arith, longer c.args.n c.if-n-lt10.false (omega arith), c.put_number-at.ensures.ends), search rules)
 
 pub returns : goal.returns
-returns t c = more c.args.n c.if-n-lt10.false (omega arith) c.put-number-at.ensures c.put-digit-2.ensures
+returns t c = more c.args.n c.if-n-lt10.false (omega arith) c.put_number-at.ensures c.put_digit-2.ensures

@@ -3,5 +3,5 @@ use Rattle.automaton.specs.Lawful.{lawful}
 use Rattle.automaton.proofs.Lawfully.{all_pushed}
 use Rattle.automaton.proofs.model.Model.add.Goals as goal
 
-pub invariant-of-self : goal.invariant-of-self
-invariant-of-self c = (search rules, (search rules, (search rules, (search (rules, all_pushed), tt))))
+pub invariant_of-self : goal.invariant_of-self
+invariant_of-self c = (search rules, (search rules, (search rules, (search (rules, all_pushed), tt))))

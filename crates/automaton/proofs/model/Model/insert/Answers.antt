@@ -12,8 +12,8 @@ use Rattle.automaton.proofs.model.Model.insert.Goals as goal
 pub raise-requires : goal.raise-requires
 raise-requires c = let m = c.args.self.now in all_clocked m.sizes 3 m.rules.items.items m.timed m.lawful
 
-pub invariant-of-self : goal.invariant-of-self
-invariant-of-self c =
+pub invariant_of-self : goal.invariant_of-self
+invariant_of-self c =
     let m = c.args.self.now in
     let z : Sizes = record { states = m.sizes.states; labels = m.sizes.labels; clocks = m.sizes.clocks + 1 } in
     (search rules, (search rules, (search rules, (ap (all_lawful z) c.raise.ensures.items ∙ lawful_raised c.args.place m.sizes m.rules.items.items m.lawful, tt))))

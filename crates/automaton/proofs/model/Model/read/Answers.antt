@@ -7,7 +7,7 @@ use Rattle.automaton.proofs.model.Model.read.Goals as goal
 pub returns-then-len-ge-RULES : goal.returns-then-len-ge-RULES
 returns-then-len-ge-RULES c =
     let h : 64 ≤ length c.args.self.now.rules.items.items = search rules in
-    record { answer = ap told c.of-call.ensures ∙ sym (full c.args.n (automaton c.args.self.now) h); fits = tt }
+    record { answer = ap told c.of_call.ensures ∙ sym (full c.args.n (automaton c.args.self.now) h); fits = tt }
 
 pub returns : goal.returns
 returns c =

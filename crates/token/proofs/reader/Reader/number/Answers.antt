@@ -11,5 +11,5 @@ returns-in-Some c =
 
 pub returns-in-None : goal.returns-in-None
 returns-in-None c =
-    let read : out (λ n. n) (Err c.at-byte.result) (at c.next.new.self) ≡ number_due (at c.args.self.now) = search rules in
-    record { same = search rules; reads = read; plain = reads_plain _ _ (Err c.at-byte.result) _ read }
+    let read : out (λ n. n) (Err c.at_byte.result) (at c.next.new.self) ≡ number_due (at c.args.self.now) = search rules in
+    record { same = search rules; reads = read; plain = reads_plain _ _ (Err c.at_byte.result) _ read }
