@@ -1,15 +1,13 @@
-use Rattle.std.specs.Prelude.{◌≡◌, ℕ, zero, suc, ◌+◌, ◌*◌, ◌<◌, ◌≤◌, Bool, true, false, cond, leb, ◌⊎◌, List, [], ◌∷◌, length, nat_le, refl}
-use Rattle.std.proofs.Common.{sym, ap, subst, ◌∙◌, inl, inr, arith, not-suc-le-zero, le_of_suc-le-suc, mul-le-mul_right, zero-mul, add-mul, one-mul}
-use Rattle.std.proofs.lemmas.Bool.{leb-true, le-leb, leb-false, ltb-false, cases_Bool, cond-true, cond-false}
-use Rattle.abstraction.specs.Lists.{Sits, In}
-use Rattle.abstraction.specs.Frames.{Frame}
-use Rattle.abstraction.specs.Bounds.{AtLeast, AtMost, Inside, Fits}
-use Rattle.abstraction.specs.Owes.{Lawfully, ListsLawfully, ListingLaws, Listed, Covered, CoversAt, Covers}
-use Rattle.abstraction.specs.declared.interval.Interval.{Interval}
+use Rattle.std.specs.Prelude.{◌≡◌, ℕ, zero, suc, ◌*◌, ◌≤◌, Bool, true, false, cond, leb, [], ◌∷◌, nat_le, refl}
+use Rattle.std.proofs.Common.{sym, ap, subst, ◌∙◌, arith, not-suc-le-zero, le_of_suc-le-suc, mul-le-mul_right, zero-mul, add-mul, one-mul}
+use Rattle.std.proofs.lemmas.Bool.{leb-true, le-leb, leb-false, ltb-false, cond-true}
+use Rattle.abstraction.specs.Lists.{In}
+use Rattle.abstraction.specs.Bounds.{AtLeast, AtMost}
+use Rattle.abstraction.specs.Owes.{Lawfully, ListsLawfully, Covers}
 use Rattle.abstraction.specs.declared.interval.Upper.{Upper}
 use Rattle.abstraction.specs.declared.interval.Upper.TheVariants.{Upto, Under, Unbounded}
 use Rattle.abstraction.specs.declared.scope.Scope.{Scope}
-use Rattle.floors.specs.Floors.{allows, popped_list, floors, at_least_so_old}
+use Rattle.floors.specs.Floors.{allows, floors, at_least_so_old}
 use Rattle.floors.specs.declared.Floor.{Floor}
 use Rattle.floors.specs.declared.Floors.{Floors}
 
