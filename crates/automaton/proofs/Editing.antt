@@ -1,12 +1,12 @@
-use Rattle.std.proofs.Common.{◌≡◌, ℕ, ◌<◌, ◌≤◌, Bool, true, false, cond, ltb, leb, List, [], ◌∷◌, ◌++◌, length, IfOk, Ok, Err, Result, sym, refl, ap, ◌∙◌}
+use Rattle.std.proofs.Common.{◌≡◌, ◌<◌, ◌≤◌, leb, length, IfOk, Ok, Err, Result, sym, refl, ap}
 use Rattle.std.proofs.lemmas.Bool.{lt-ltb, le-ltb}
 use Rattle.fault.specs.Faults.{Outcome, outcome}
-use Rattle.fault.specs.Faults.Outcome.{accepted, refused}
+use Rattle.fault.specs.Faults.Outcome.{accepted}
 use Rattle.fault.specs.declared.Fault.{Fault}
 use Rattle.automaton.specs.Runs.{Automaton}
 use Rattle.automaton.specs.Rules.{no, unless, states_fit, argument_fits, bounds_fit, rule, read_rule}
 use Rattle.automaton.specs.Lawful.{Reads}
-use Rattle.automaton.specs.Edits.{settle, sizes, add_outcome, FitsIn, with_rules, add_after}
+use Rattle.automaton.specs.Edits.{settle, sizes, add_outcome, FitsIn}
 use Rattle.automaton.specs.declared.rule.Rule.{Rule}
 use Rattle.automaton.specs.declared.rule.RuleNumbers.{RuleNumbers}
 use Rattle.automaton.proofs.Writing.{passed, same_accepted}

@@ -1,10 +1,9 @@
-use Rattle.std.proofs.Common.{◌≡◌, ℕ, zero, suc, ◌+◌, ◌<◌, ◌≤◌, Bool, true, false, cond, leb, List, [], ◌∷◌, ◌++◌, map, length, get_or, set, replicate, sym, refl, ap, ◌∙◌, subst, le_of_suc-le-suc, not-suc-le-zero, add-one, arith, length-set}
+use Rattle.std.proofs.Common.{◌≡◌, ℕ, zero, suc, ◌+◌, ◌<◌, ◌≤◌, leb, List, [], ◌∷◌, map, length, get_or, set, replicate, sym, refl, ap, ◌∙◌, subst, le_of_suc-le-suc, not-suc-le-zero, add-one, arith, length-set}
 use lib.ListN.{length-map, length-replicate}
 use Rattle.std.proofs.lemmas.Bool.{leb-true, leb-false, cond_both}
-use Rattle.abstraction.specs.Lists.{Sits, In}
+use Rattle.abstraction.specs.Lists.{Sits}
 use Rattle.abstraction.specs.Frames.{plus}
-use Rattle.abstraction.specs.Bounds.{Inside}
-use Rattle.automaton.specs.Runs.{Automaton, Configuration, older, Does, Starts, Waits, Fires, Step, Run, Reaches}
+use Rattle.automaton.specs.Runs.{Automaton, Configuration, Does, Run}
 use Rattle.automaton.specs.Runs.Step.{waits, fires}
 use Rattle.automaton.specs.Runs.Run.{begun, stepped}
 use Rattle.automaton.specs.declared.rule.Symbol.{Symbol}

@@ -1,12 +1,11 @@
-use Rattle.std.proofs.Common.{◌≡◌, ℕ, zero, suc, ◌+◌, ◌<◌, ◌≤◌, Bool, true, false, cond, ◌&&◌, ◌||◌, eqb, ltb, leb, ◌⊎◌, sym, refl, ap, ◌∙◌, subst, inl, inr, arith}
-use Rattle.std.proofs.lemmas.Bool.{and_parts, and_from, or_cases, eqb-true, leb-true, ltb-true, le-leb}
+use Rattle.std.proofs.Common.{◌≡◌, ℕ, zero, suc, ◌≤◌, Bool, true, false, cond, ◌&&◌, ◌||◌, eqb, ltb, leb, sym, refl, ap, ◌∙◌, subst, arith}
+use Rattle.std.proofs.lemmas.Bool.{and_parts, and_from, eqb-true, leb-true}
 use Rattle.fault.specs.Faults.{Outcome}
-use Rattle.fault.specs.Faults.Outcome.{accepted, refused}
-use Rattle.abstraction.specs.Bounds.{fits, upper_fits}
-use Rattle.abstraction.specs.declared.interval.Interval.{Interval}
+use Rattle.fault.specs.Faults.Outcome.{accepted}
+use Rattle.abstraction.specs.Bounds.{upper_fits}
 use Rattle.abstraction.specs.declared.interval.Upper.{Upper}
 use Rattle.abstraction.specs.declared.interval.Upper.TheVariants.{Upto, Under, Unbounded}
-use Rattle.automaton.specs.Rules.{no, unless, argument_fits, bounds_fit, action, upper, interval, rule, read_rule, kind_of, argument_of, bound_of, flag_of, written}
+use Rattle.automaton.specs.Rules.{unless, argument_fits, action, upper, interval, rule, read_rule, kind_of, argument_of, bound_of, flag_of, written}
 use Rattle.automaton.specs.Lawful.{names, lawful, Reads}
 use Rattle.automaton.specs.declared.rule.Rule.{Rule}
 use Rattle.automaton.specs.declared.rule.RuleNumbers.{RuleNumbers}

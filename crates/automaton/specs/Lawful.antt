@@ -1,9 +1,9 @@
-use Rattle.std.specs.Prelude.{◌≡◌, ℕ, ◌<◌, ◌≤◌, Bool, true, ◌&&◌, List, length, nat_le, nat_lt, slice_index_or}
+use Rattle.std.specs.Prelude.{◌≡◌, ℕ, ◌<◌, Bool, true, ◌&&◌, List, length, nat_le, nat_lt, slice_index_or}
 use Rattle.fault.specs.Faults.{Outcome}
 use Rattle.fault.specs.Faults.Outcome.{accepted}
 use Rattle.abstraction.specs.Lists.{all}
 use Rattle.abstraction.specs.Bounds.{fits}
-use Rattle.automaton.specs.Rules.{read_rule, written}
+use Rattle.automaton.specs.Rules.{written}
 use Rattle.automaton.specs.declared.rule.Rule.{Rule}
 use Rattle.automaton.specs.declared.rule.RuleNumbers.{RuleNumbers}
 use Rattle.automaton.specs.declared.rule.Sizes.{Sizes}

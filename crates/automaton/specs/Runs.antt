@@ -1,4 +1,4 @@
-use Rattle.std.specs.Prelude.{◌≡◌, ℕ, ◌+◌, ◌<◌, ◌≤◌, List, [], ◌∷◌, map, replicate, slice_index, slice_set}
+use Rattle.std.specs.Prelude.{◌≡◌, ℕ, ◌+◌, ◌≤◌, List, [], ◌∷◌, map, replicate, slice_index, slice_set}
 use Rattle.abstraction.specs.Lists.{In}
 use Rattle.abstraction.specs.Frames.{plus}
 use Rattle.abstraction.specs.Bounds.{Inside}

@@ -1,4 +1,4 @@
-use Rattle.std.proofs.Common.{◌≡◌, ℕ, ◌+◌, List, [], ◌∷◌, map, sym, refl, ap, ◌∙◌, subst, arith}
+use Rattle.std.proofs.Common.{◌≡◌, ℕ, ◌+◌, List, [], ◌∷◌, map, sym, ap, ◌∙◌, subst, arith}
 use Rattle.abstraction.specs.Lists.{In}
 use Rattle.abstraction.specs.Frames.{Frame, plus, later, popped}
 use Rattle.abstraction.specs.Owes.{Covered}

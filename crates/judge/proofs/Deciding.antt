@@ -1,7 +1,7 @@
-use Rattle.std.proofs.Common.{◌≡◌, ℕ, zero, suc, ◌+◌, ◌<◌, ◌≤◌, Bool, true, false, cond, not, ◌&&◌, ◌||◌, eqb, ltb, leb, ◌⊎◌, List, [], ◌∷◌, length, get_or, Some, None, Decides, Option, sym, refl, ap, ◌∙◌, subst, inl, inr, not-suc-le-zero, add-zero, arith}
+use Rattle.std.proofs.Common.{◌≡◌, ℕ, zero, suc, ◌+◌, ◌<◌, ◌≤◌, Bool, true, false, cond, not, ◌&&◌, eqb, ltb, leb, ◌⊎◌, List, [], ◌∷◌, Some, None, Decides, Option, sym, refl, ap, ◌∙◌, inl, inr, not-suc-le-zero, add-zero, arith}
 use Rattle.std.proofs.lemmas.Bool.{and_parts, and_from, or_left, or_right, cases_Bool, cond-true, cond-false, eqb-true, eq-eqb, leb-true, le-leb, ltb-true, lt-ltb, not-true, not_from_false, both_ways, ne_eqb, eqb-false}
-use Rattle.abstraction.specs.Lists.{all, any, or_else, first, unless, fault, Sits, In}
-use Rattle.abstraction.proofs.Found.{all_true, any_true, sits_next}
+use Rattle.abstraction.specs.Lists.{all, any, or_else, first, unless, Sits, In}
+use Rattle.abstraction.proofs.Found.{all_true, sits_next}
 
 -- tests that decide statements
 

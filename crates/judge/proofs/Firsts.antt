@@ -1,13 +1,12 @@
-use Rattle.std.proofs.Common.{◌≡◌, ℕ, ◌+◌, ◌<◌, ◌≤◌, Bool, true, false, cond, not, eqb, ◌⊎◌, List, length, get_or, Some, None, Decides, Option, sym, refl, ap, ◌∙◌, subst, inl, inr, zero-add, arith}
-use Rattle.std.proofs.lemmas.Bool.{cases_Bool, cond-true, cond-false, both_ways, false≢true}
+use Rattle.std.proofs.Common.{◌≡◌, ℕ, ◌+◌, Bool, true, cond, get_or, Some, None, Decides, sym, ap, ◌∙◌, inl, inr, zero-add, arith}
+use Rattle.std.proofs.lemmas.Bool.{cases_Bool, cond-true, cond-false, both_ways}
 use Rattle.fault.specs.declared.Place.{Place}
-use Rattle.fault.specs.declared.Place.TheVariants.{Table}
-use Rattle.abstraction.specs.Lists.{or_else, first, unless, fault, Sits, In}
+use Rattle.abstraction.specs.Lists.{or_else, unless, fault, Sits, In}
 use Rattle.abstraction.proofs.Found.{or_none, unless_none, first_none}
 use Rattle.automaton.specs.declared.rule.Rule.{Rule}
-use Rattle.judge.specs.Claims.{Claim, scope}
+use Rattle.judge.specs.Claims.{Claim}
 use Rattle.judge.specs.Judged.{at_entry, at_rule, at_return, time_closed, rule_closed, opens, return_closed, rules_fault, pops_fault, return_fault, returns_fault, entry_fault, closure_fault}
-use Rattle.judge.specs.Closed.{ClosedTime, ClosedRule, ClosedReturn, Closed, LawfulEntry}
+use Rattle.judge.specs.Closed.{ClosedTime, Closed, LawfulEntry}
 use Rattle.judge.specs.Law.{Spot, Earlier, named, ClosedAt, FirstOpen, FirstWithout}
 use Rattle.judge.specs.Law.Spot.{by_time, by_rule, by_return}
 use Rattle.judge.specs.declared.entry.Entry.{Entry}

@@ -1,8 +1,7 @@
-use Rattle.std.proofs.Common.{◌≡◌, ℕ, ◌+◌, ◌<◌, ◌≤◌, Bool, true, false, cond, not, ◌&&◌, eqb, ltb, leb, ◌⊎◌, List, [], ◌∷◌, length, get_or, Decides, sym, refl, ap, ◌∙◌, subst, inl, inr, arith}
+use Rattle.std.proofs.Common.{◌≡◌, ℕ, ◌+◌, Bool, true, cond, ◌&&◌, eqb, List, [], ◌∷◌, length, get_or, Decides, sym, refl, ap, ◌∙◌, inl, inr, arith}
 use Rattle.std.proofs.lemmas.List.{get_or_default}
 use Rattle.std.proofs.lemmas.Bool.{and_parts, and_from, cases_Bool, cond-true, cond-false, eqb-true, eq-eqb, false≢true}
-use Rattle.abstraction.specs.Lists.{all, any, Sits, In}
-use Rattle.abstraction.specs.Bounds.{fits, Fits}
+use Rattle.abstraction.specs.Lists.{Sits, In}
 use Rattle.abstraction.specs.declared.interval.Interval.{Interval}
 use Rattle.abstraction.proofs.Found.{any_true}
 use Rattle.abstraction.proofs.Tests.{fits_true, fits_from}
@@ -10,7 +9,7 @@ use Rattle.automaton.specs.declared.rule.Rule.{Rule}
 use Rattle.automaton.specs.declared.rule.Action.{Action}
 use Rattle.automaton.specs.declared.rule.Action.TheVariants.{Move, Test, Assign, Push, Pop}
 use Rattle.judge.specs.Claims.{Claim, scope}
-use Rattle.judge.specs.Judged.{beside, roots, wanted, rooted, takes, taken, all_taken, time_closed, action_closed, rule_closed, any_within, pushes, opens_by, opens, pop_closed, return_closed, action_fits, rules_fit, sizes_fit, root_fits, entry_lawful, begins, table_begins}
+use Rattle.judge.specs.Judged.{beside, roots, wanted, takes, taken, all_taken, time_closed, action_closed, rule_closed, pushes, opens_by, opens, pop_closed, return_closed, action_fits, sizes_fit, entry_lawful, begins, table_begins}
 use Rattle.judge.specs.Closed.{Within, RootAt, Taken, TakenByRoot, Opens, ClosedTime, ClosedAction, ClosedRule, ClosedReturn, Bounded, Fit, LawfulEntry, Begins}
 use Rattle.judge.specs.declared.entry.Entry.{Entry}
 use Rattle.judge.proofs.Deciding.{both, as_well, same, at_most, below, where_same, each, any_at}

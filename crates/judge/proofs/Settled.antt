@@ -1,7 +1,6 @@
-use Rattle.std.proofs.Common.{◌≡◌, ℕ, ◌<◌, ◌≤◌, true, ◌&&◌, ltb, List, sym, refl, ap, ◌∙◌, subst}
+use Rattle.std.proofs.Common.{◌≡◌, ℕ, ◌≤◌, true, ◌&&◌, ltb, List, ap, ◌∙◌}
 use Rattle.std.proofs.lemmas.Bool.{and_parts, ltb-true}
 use Rattle.fault.specs.Faults.{Outcome}
-use Rattle.abstraction.specs.Lists.{In}
 use Rattle.abstraction.specs.Owes.{Answers, Meaning, Small, ListsLawfully}
 use Rattle.abstraction.proofs.Found.{all_true}
 use Rattle.automaton.specs.Edits.{sizes}

@@ -1,8 +1,8 @@
-use Rattle.std.proofs.Common.{◌≡◌, ℕ, ◌+◌, ◌<◌, ◌≤◌, true, List, [], ◌∷◌, map, length, get_or, set, replicate, sym, refl, ap, ◌∙◌, subst, arith, length-set}
+use Rattle.std.proofs.Common.{◌≡◌, ℕ, ◌+◌, true, List, sym, refl, ap, ◌∙◌, subst, arith, length-set}
 use lib.ListN.{length-map, length-replicate}
 use Rattle.abstraction.specs.Lists.{Sits, In}
 use Rattle.abstraction.specs.Frames.{Frame, Framed, plus, zeros, later, assigned, pushed, popped}
-use Rattle.abstraction.specs.Bounds.{Inside, Fits}
+use Rattle.abstraction.specs.Bounds.{Inside}
 use Rattle.abstraction.specs.Owes.{Lawfully, ListingLaws, Listed, Covered, CoversAt}
 use Rattle.abstraction.proofs.Found.{plus_zero}
 use Rattle.automaton.specs.Lawful.{Clocked}
@@ -14,9 +14,9 @@ use Rattle.automaton.specs.declared.rule.Rule.{Rule}
 use Rattle.automaton.specs.declared.rule.Action.{Action}
 use Rattle.automaton.specs.declared.rule.Action.TheVariants.{Move, Test, Assign, Push, Pop}
 use Rattle.judge.specs.Claims.{Claim, scope}
-use Rattle.judge.specs.Closed.{Taken, TakenByRoot, Opens, ClosedAction, Closed, Bounded, LawfulEntry, Begins, Avoids}
+use Rattle.judge.specs.Closed.{Taken, Opens, ClosedAction, Closed, Bounded, LawfulEntry, Begins, Avoids}
 use Rattle.judge.specs.declared.entry.Entry.{Entry}
-use Rattle.judge.proofs.Chains.{Holds, Link, Chain, top_holds, retopped, waited, dropped}
+use Rattle.judge.proofs.Chains.{Holds, Chain, top_holds, retopped, waited, dropped}
 
 -- in a closed table every configuration of a run is followed, if the abstraction covers
 

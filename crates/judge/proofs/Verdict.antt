@@ -1,16 +1,14 @@
-use Rattle.std.proofs.Common.{◌≡◌, ℕ, ◌<◌, ◌≤◌, Bool, true, false, not, eqb, length, get_or, Some, None, Option, sym, refl, ap, ◌∙◌, subst, arith}
+use Rattle.std.proofs.Common.{◌≡◌, ℕ, Bool, true, false, not, eqb, Some, None, Option, sym, refl, ◌∙◌, subst, arith}
 use Rattle.std.proofs.lemmas.List.{get_or_default}
-use Rattle.fault.specs.Faults.{Outcome}
 use Rattle.fault.specs.Faults.Outcome.{accepted, refused}
-use Rattle.fault.specs.declared.Layer.{Layer}
 use Rattle.fault.specs.declared.Layer.TheVariants.{Evidence}
 use Rattle.fault.specs.declared.Place.{Place}
 use Rattle.fault.specs.declared.Place.TheVariants.{Table}
-use Rattle.abstraction.specs.Lists.{Sits, In}
+use Rattle.abstraction.specs.Lists.{In}
 use Rattle.judge.specs.Claims.{Claim}
 use Rattle.judge.specs.Judged.{at_entry, sizes_fit, entry_lawful, lawful_fault, table_begins, target_fault, closure_fault, unless_failed, unless_found, judged}
 use Rattle.judge.specs.Closed.{Closed, Fit, LawfulEntry, Begins, Avoids, Lawful}
-use Rattle.judge.specs.Law.{FirstWithout, FirstOpen, Refused, Law}
+use Rattle.judge.specs.Law.{Refused, Law}
 use Rattle.judge.specs.Law.Refused.{unfit, unlawful, elsewhere, in_target, not_closed}
 use Rattle.judge.specs.Marks.{Rooted}
 use Rattle.judge.specs.declared.entry.Entry.{Entry}

@@ -1,4 +1,4 @@
-use Rattle.std.specs.Prelude.{◌≡◌, ℕ, ◌<◌, ◌≤◌, true, List, length, ◌≢◌}
+use Rattle.std.specs.Prelude.{◌≡◌, ℕ, ◌<◌, ◌≤◌, true, length, ◌≢◌}
 use Rattle.abstraction.specs.Lists.{Sits, In}
 use Rattle.abstraction.specs.Bounds.{Fits}
 use Rattle.abstraction.specs.declared.interval.Interval.{Interval}

@@ -1,4 +1,4 @@
-use Rattle.std.proofs.Common.{◌≡◌, ◌<◌, length, arith, rules}
+use Rattle.std.proofs.Common.{◌≡◌, ◌<◌, length, rules}
 use Rattle.abstraction.proofs.Room.{added_fits, added_full}
 use Rattle.abstraction.proofs.listing.Listing.add.Goals as goal
 

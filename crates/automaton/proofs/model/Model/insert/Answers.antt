@@ -16,7 +16,7 @@ pub invariant_of-self : goal.invariant_of-self
 invariant_of-self c =
     let m = c.args.self.now in
     let z : Sizes = record { states = m.sizes.states; labels = m.sizes.labels; clocks = m.sizes.clocks + 1 } in
-    (search rules, (search rules, (search rules, (ap (all_lawful z) c.raise.ensures.items ∙ lawful_raised c.args.place m.sizes m.rules.items.items m.lawful, tt))))
+    record { room = search rules; few = search rules; timed = search rules; lawful = ap (all_lawful z) c.raise.ensures.items ∙ lawful_raised c.args.place m.sizes m.rules.items.items m.lawful }
 
 pub returns : goal.returns
 returns c =

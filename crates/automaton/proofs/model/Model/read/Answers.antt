@@ -1,4 +1,4 @@
-use Rattle.std.proofs.Common.{◌≡◌, ◌<◌, ◌≤◌, length, sym, ap, ◌∙◌, rules}
+use Rattle.std.proofs.Common.{◌<◌, ◌≤◌, length, sym, ap, ◌∙◌, rules}
 use Rattle.fault.specs.Faults.{told}
 use Rattle.automaton.specs.Models.{automaton}
 use Rattle.automaton.proofs.Editing.{full, roomy, read_fits}

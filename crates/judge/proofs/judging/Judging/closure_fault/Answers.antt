@@ -2,8 +2,8 @@ use Rattle.std.proofs.Common.{rules}
 use Rattle.judge.proofs.judging.Judging.closure_fault.Goals as goal
 use Rattle.abstraction.proofs.Walk.{first_hit, first_miss, first_end}
 
-pub returns-then-is-some : goal.returns-then-is-some
-returns-then-is-some g c = search (rules, first_hit)
+pub returns-then-is_some : goal.returns-then-is_some
+returns-then-is_some g c = search (rules, first_hit)
 
 pub loop-k-preserved : goal.loop-k-preserved
 loop-k-preserved g c = search (rules, first_miss)

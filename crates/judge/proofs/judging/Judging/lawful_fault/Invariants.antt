@@ -1,4 +1,4 @@
-use Rattle.std.proofs.Common.{◌≡◌, not, eqb, drop}
+use Rattle.std.proofs.Common.{◌≡◌, drop}
 use Rattle.judge.specs.Judged.{lawful_fault, entry_lawful, at_entry}
 use Rattle.judge.specs.Judgings.{claim_of}
 use Rattle.abstraction.specs.Lists.{fault}
