@@ -1,4 +1,4 @@
-use Rattle.std.proofs.Common.{◌≡◌, ℕ, zero, suc, ◌<◌, ◌≤◌, List, [], map, reverse, take, set, replicate, sym, refl, ap, ◌∙◌, arith}
+use Rattle.std.proofs.Common.{◌≡◌, ℕ, zero, suc, ◌<◌, ◌≤◌, List, [], map, reverse, take, set, replicate, refl, ap, ◌∙◌, arith}
 use lib.Seq.{take-set-lt}
 use Rattle.abstraction.specs.Frames.{plus}
 use Rattle.automaton.specs.Runs.{Configuration, older}

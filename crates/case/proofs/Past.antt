@@ -3,7 +3,7 @@ use Rattle.std.specs.List.{slice_get}
 use Rattle.std.proofs.lemmas.Bool.{and_parts, eqb-true, leb-true}
 use Rattle.fault.specs.Faults.{Outcome}
 use Rattle.fault.specs.Faults.Outcome.{accepted, refused}
-use Rattle.automaton.specs.Runs.{Automaton, Configuration, Step, Run, Reaches}
+use Rattle.automaton.specs.Runs.{Automaton, Configuration, Run, Reaches}
 use Rattle.automaton.specs.Runs.Step.{waits, fires}
 use Rattle.automaton.specs.Runs.Run.{begun, stepped}
 use Rattle.automaton.specs.Insert.{SameReach}
@@ -14,8 +14,8 @@ use Rattle.case.specs.Views.{View, Running, arrived}
 use Rattle.case.specs.Views.Running.{idle, at}
 use Rattle.case.specs.Steps.{delay_check, waited, fire_check, fired}
 use Rattle.case.specs.Calls.{new_case, judge_view, edited, moved, void, answered, begin_check, start_of, begin_after, delay_run, delayed, fire_run, fired_run, fire_rule, fired_rule}
-use Rattle.case.specs.History.{Answer, heard, finish, state, Event, event, Noted, noted, notes_of, calls, events, Carries, AllCarry, answer, after, edit, present_from, present, answers_from, finishes, settles, settled_from, settled, Promised, Makes, Played, OverCalls}
-use Rattle.case.specs.History.Answer.{none, finished, in_state, stands, denied}
+use Rattle.case.specs.History.{heard, finish, state, Event, event, Noted, noted, notes_of, calls, events, Carries, AllCarry, answer, after, edit, present_from, answers_from, finishes, settles, settled_from, Promised, Makes, Played, OverCalls}
+use Rattle.case.specs.History.Answer.{finished}
 use Rattle.case.specs.History.Event.{opens, adds, removes, retargets, inserts, begins, delays, fires as fires', judges, asks}
 use Rattle.case.specs.declared.case.Standing.{Standing}
 use Rattle.case.specs.declared.case.Standing.TheVariants.{Undecided, Reachable, Unreachable}
@@ -28,7 +28,7 @@ use Rattle.judge.specs.Judged.{judged}
 use Rattle.judge.specs.Law.{Sound}
 use Rattle.judge.specs.declared.entry.Entry.{Entry}
 use Rattle.abstraction.specs.Lists.{Sits}
-use Rattle.abstraction.specs.Owes.{Answers, Meaning, Covers}
+use Rattle.abstraction.specs.Owes.{Answers, Meaning}
 use Rattle.automaton.proofs.Simulate.{in_map}
 use Rattle.std.proofs.lemmas.List.{get_or_default}
 use Rattle.case.proofs.Transitions.{checked, nth_sits, fired_state}

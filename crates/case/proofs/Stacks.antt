@@ -1,8 +1,6 @@
-use Rattle.std.proofs.Common.{◌≡◌, ℕ, suc, ◌+◌, ◌-◌, ◌<◌, ◌≤◌, Bool, true, false, ◌&&◌, ltb, leb, List, [], ◌∷◌, ◌++◌, map, reverse, length, get_or, take, drop, Some, None, Option, sym, refl, ap, ◌∙◌, arith}
+use Rattle.std.proofs.Common.{◌≡◌, ℕ, ◌+◌, ◌-◌, ◌<◌, ◌≤◌, Bool, true, false, ◌&&◌, List, [], ◌∷◌, ◌++◌, map, reverse, length, get_or, take, drop, Some, None, sym, refl, ap, ◌∙◌, arith}
 use mathlib.Core.List.{reverse-append, reverse-cons}
-use lib.ListN.{length-reverse}
 use Rattle.std.proofs.lemmas.List.{take_more, take_all, get_or_default}
-use Rattle.std.proofs.lemmas.Bool.{leb-true}
 use Rattle.abstraction.specs.Lists.{all}
 use Rattle.abstraction.proofs.Found.{all_true}
 use Rattle.automaton.specs.declared.rule.Symbol.{Symbol}

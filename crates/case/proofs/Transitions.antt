@@ -1,4 +1,4 @@
-use Rattle.std.proofs.Common.{◌≡◌, ℕ, zero, suc, ◌+◌, ◌<◌, ◌≤◌, Bool, true, false, ◌&&◌, eqb, ltb, leb, List, [], ◌∷◌, map, length, get_or, set, Some, None, Option, sym, refl, ap, ◌∙◌, subst, arith}
+use Rattle.std.proofs.Common.{◌≡◌, ℕ, zero, suc, ◌+◌, ◌≤◌, Bool, true, ◌&&◌, eqb, leb, List, [], ◌∷◌, map, Some, None, Option, sym, refl, ap, ◌∙◌, subst, arith}
 use Rattle.std.specs.List.{slice_get}
 use Rattle.std.proofs.lemmas.Bool.{and_parts, and_from, eqb-true, eq-eqb, leb-true, ltb-true, le-leb, lt-ltb}
 use Rattle.fault.specs.Faults.{Outcome}
@@ -10,7 +10,7 @@ use Rattle.abstraction.specs.declared.interval.Interval.{Interval}
 use Rattle.abstraction.proofs.Found.{all_true, sits_next}
 use Rattle.abstraction.proofs.Tests.{inside_true, inside_from}
 use Rattle.automaton.specs.Runs.{Configuration, older, Does, Waits, Fires}
-use Rattle.automaton.specs.Rules.{no, unless}
+use Rattle.automaton.specs.Rules.{no}
 use Rattle.automaton.specs.Edits.{settle, done}
 use Rattle.automaton.specs.declared.rule.Rule.{Rule}
 use Rattle.automaton.specs.declared.rule.Symbol.{Symbol}

@@ -1,4 +1,4 @@
-use Rattle.std.specs.Prelude.{ℕ, ◌&&◌, List, [], replicate, Some, None, Option, nat_le}
+use Rattle.std.specs.Prelude.{ℕ, ◌&&◌, [], replicate, Some, None, Option, nat_le}
 use Rattle.std.specs.List.{slice_get}
 use Rattle.fault.specs.Faults.{Outcome}
 use Rattle.fault.specs.Faults.Outcome.{accepted, refused}

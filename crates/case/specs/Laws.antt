@@ -1,8 +1,8 @@
-use Rattle.std.specs.Prelude.{◌≡◌, ℕ, ◌<◌, ◌≤◌, List, length}
+use Rattle.std.specs.Prelude.{◌≡◌, ℕ, ◌<◌, ◌≤◌, length}
 use Rattle.fault.specs.Faults.{Outcome}
 use Rattle.fault.specs.Faults.Outcome.{accepted}
 use Rattle.abstraction.specs.Lists.{Sits, In}
-use Rattle.automaton.specs.Runs.{Automaton, Configuration, Starts, Waits, Fires}
+use Rattle.automaton.specs.Runs.{Configuration, Starts, Waits, Fires}
 use Rattle.automaton.specs.declared.rule.Rule.{Rule}
 use Rattle.automaton.specs.declared.rule.Symbol.{Symbol}
 use Rattle.automaton.specs.declared.rule.Action.{Action}

@@ -1,10 +1,9 @@
-use Rattle.std.specs.Prelude.{◌≡◌, ℕ, ◌+◌, ◌<◌, ◌≤◌, Bool, true, false, ◌&&◌, List, [], ◌∷◌, map, length, Some, None, Option, ◌==◌, nat_le, nat_lt, slice_index, slice_set}
+use Rattle.std.specs.Prelude.{ℕ, ◌+◌, Bool, true, false, ◌&&◌, List, [], ◌∷◌, map, length, Some, None, Option, ◌==◌, nat_le, nat_lt, slice_index, slice_set}
 use Rattle.fault.specs.Faults.{Outcome}
-use Rattle.fault.specs.Faults.Outcome.{accepted, refused}
 use Rattle.abstraction.specs.Lists.{all}
 use Rattle.abstraction.specs.Frames.{plus}
 use Rattle.abstraction.specs.Bounds.{inside}
-use Rattle.automaton.specs.Runs.{Configuration, older, Waits, Fires}
+use Rattle.automaton.specs.Runs.{Configuration, older}
 use Rattle.automaton.specs.Rules.{unless}
 use Rattle.automaton.specs.Edits.{done}
 use Rattle.automaton.specs.declared.rule.Rule.{Rule}

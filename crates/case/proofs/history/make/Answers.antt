@@ -1,4 +1,3 @@
-use Rattle.std.proofs.Common.{rules}
 use Rattle.case.proofs.Past.{judge_makes}
 use Rattle.case.proofs.history.make.Goals as goal
 

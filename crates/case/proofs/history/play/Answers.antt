@@ -1,4 +1,4 @@
-use Rattle.std.proofs.Common.{◌<◌, ◌≤◌, map, length, refl, ap, ◌∙◌, subst, arith, take_all}
+use Rattle.std.proofs.Common.{◌<◌, ◌≤◌, map, length, refl, ◌∙◌, subst, arith, take_all}
 use lib.Seq.{map-set_same}
 use Rattle.case.specs.Views.{view}
 use Rattle.case.specs.History.{noted, calls, AllCarry, Played}

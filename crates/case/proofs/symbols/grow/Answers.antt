@@ -1,4 +1,4 @@
-use Rattle.std.proofs.Common.{◌≡◌, ◌+◌, ◌<◌, ◌≤◌, length, get_or, arith, rules}
+use Rattle.std.proofs.Common.{◌≡◌, ◌+◌, ◌<◌, length, get_or, arith, rules}
 use Rattle.std.proofs.lemmas.Bool.{leb-true}
 use Rattle.std.proofs.lemmas.List.Edits.{map_over_more}
 use Rattle.std.proofs.lemmas.List.{take_all, drop_all, get_or_default}
@@ -6,8 +6,8 @@ use Rattle.case.specs.Steps.{clock_fits, limit}
 use Rattle.case.proofs.Stacks.{holds_here}
 use Rattle.case.proofs.symbols.grow.Goals as goal
 
-pub overflow-add-x : goal.overflow-add-x
-overflow-add-x c =
+pub overflow_add-x : goal.overflow_add-x
+overflow_add-x c =
     let d = c.args.units in
     let xs = c.args.clocks.now in
     let ys = c.loop-x.clocks in

@@ -18,7 +18,7 @@ returns c =
     let ss = self.stack.symbols.items in
     let w = view self in
     let e = ap (λ (z : Sizes). z.clocks) c.sizes-n.ensures.value in
-    let passed : fire_check p.scale (configuration n p ss) r v ≡ done = ap (λ k. fire_check p.scale (configuration k p ss) r v) (sym e) ∙ sym c.in-ok-may-fire.ensures in
+    let passed : fire_check p.scale (configuration n p ss) r v ≡ done = ap (λ k. fire_check p.scale (configuration k p ss) r v) (sym e) ∙ sym c.in_ok-may_fire.ensures in
     record {
       answer = sym (ap (λ o. answered o r.to) passed);
       after =

@@ -1,4 +1,4 @@
-use Rattle.std.proofs.Common.{◌≡◌, sym, refl, ap, ◌∙◌}
+use Rattle.std.proofs.Common.{◌≡◌, refl, ap, ◌∙◌}
 use Rattle.fault.specs.Faults.{told, outcome}
 use Rattle.case.specs.Views.{view}
 use Rattle.case.specs.Calls.{fire_rule, fired_rule, fire_outcome, fire_after}
@@ -21,6 +21,6 @@ returns-in-None c =
     let k = c.args.place in
     let v = c.args.value in
     let found = c.in-None.ensures.value in
-    let answer : told c.of-call.result ≡ fire_outcome k v w = ap told c.of-call.ensures ∙ ap (λ m. fire_rule m v w.run) found in
+    let answer : told c.of_call.result ≡ fire_outcome k v w = ap told c.of_call.ensures ∙ ap (λ m. fire_rule m v w.run) found in
     let after : w ≡ fire_after k v w = ap (λ m. fired_rule m v w) found in
     record { answer = answer; after = after; law = fires k v w _ _ answer after; kept = λ h. refl }

@@ -1,4 +1,4 @@
-use Rattle.std.proofs.Common.{◌≡◌, reverse, sym, ap, ◌∙◌, subst}
+use Rattle.std.proofs.Common.{◌≡◌, sym, ap, ◌∙◌, subst}
 use Rattle.std.proofs.lemmas.Bool.{true≢false}
 use Rattle.automaton.specs.Edits.{settle, done}
 use Rattle.automaton.specs.declared.rule.Sizes.{Sizes}
@@ -17,7 +17,7 @@ returns c =
     let w = view self in
     let d = c.args.units in
     let e = ap (λ (z : Sizes). z.clocks) c.sizes-n.ensures.value in
-    let passed : delay_check d (configuration n p ss) ≡ done = ap (λ k. delay_check d (configuration k p ss)) (sym e) ∙ sym c.in-ok-may-wait.ensures in
+    let passed : delay_check d (configuration n p ss) ≡ done = ap (λ k. delay_check d (configuration k p ss)) (sym e) ∙ sym c.in_ok-may_wait.ensures in
     record {
       answer = sym (ap (λ o. answered o p.state) passed);
       after =

@@ -1,4 +1,4 @@
-use Rattle.std.proofs.Common.{◌≡◌, ◌≤◌, ◌++◌, map, take, drop, vec_items, vec_len, vec_capacity}
+use Rattle.std.proofs.Common.{◌≡◌, ◌++◌, map, take, drop, vec_items, vec_len}
 use Rattle.automaton.specs.Runs.{older}
 use Rattle.case.proofs.stack.Stack.age.Given as goal
 
