@@ -1,5 +1,5 @@
 -- What is ahead after the white bytes at a place.
-use Rattle.std.proofs.Common.{◌≡◌, ℕ, zero, suc, ◌+◌, ◌-◌, ◌<◌, ◌≤◌, Bool, true, false, cond, eqb, List, [], ◌∷◌, length, get_or, take, drop, sym, refl, ap, ◌∙◌, add-zero, add_assoc, add-one, one-add, arith, length-drop}
+use Rattle.std.proofs.Common.{◌≡◌, ℕ, zero, suc, ◌+◌, ◌-◌, ◌<◌, ◌≤◌, Bool, true, false, cond, eqb, List, [], ◌∷◌, length, take, drop, sym, refl, ap, ◌∙◌, add-zero, one-add, arith, length-drop}
 use native.Mathlib.Nat.{sub-zero}
 use Rattle.std.specs.List.{prefix_len, between}
 use Rattle.std.proofs.lemmas.List.{drop-drop, nil_from_length}
@@ -8,7 +8,7 @@ use Rattle.std.proofs.lemmas.Bool.Decides.{nat_tests}
 use Rattle.token.specs.Bytes.{white, mark}
 use Rattle.token.specs.Grammar.{is_end}
 use Rattle.token.specs.Lex.{front, name_len, number_len}
-use Rattle.token.specs.Tokens.{Tok, Ahead, name, number, sign, token, end, none, ahead, token_len, token_of, Out, gives, no_token, other_due, step}
+use Rattle.token.specs.Tokens.{Tok, Ahead, name, number, sign, token, end, none, ahead, token_len, token_of, gives, no_token, other_due, step}
 
 pub ahead_past : (n : ℕ) (bs : List ℕ) (p : ℕ) → ahead n bs p ≡ ahead 0 (drop n bs) (p + n)
 unfolding ahead

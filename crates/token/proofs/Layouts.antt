@@ -1,17 +1,16 @@
 -- What is laid out is read as it is, and what is read was laid out.
-use Rattle.std.proofs.Common.{◌≡◌, ℕ, zero, suc, ◌+◌, ◌-◌, ◌<◌, ◌≤◌, Bool, true, false, cond, ◌&&◌, ◌||◌, eqb, ltb, leb, ◌⊎◌, List, [], ◌∷◌, ◌++◌, length, get_or, take, drop, sym, refl, ap, ◌∙◌, subst, inl, inr, append_assoc, add-zero, zero-add, one-add, arith}
-use native.Mathlib.Nat.{sub-zero}
+use Rattle.std.proofs.Common.{◌≡◌, ℕ, zero, suc, ◌+◌, ◌-◌, ◌<◌, ◌≤◌, Bool, true, false, cond, ◌&&◌, eqb, ltb, List, [], ◌∷◌, ◌++◌, length, drop, sym, refl, ap, ◌∙◌, subst, append_assoc, one-add, arith}
 use Rattle.std.specs.List.{prefix_len, AllByRecursion as All}
 use Rattle.std.proofs.lemmas.List.{drop_at, take_at, append-nil, length-append}
-use Rattle.std.proofs.lemmas.Bool.{cases_Bool, true≢false, eqb-true, eqb-false, ltb-true, and_parts}
+use Rattle.std.proofs.lemmas.Bool.{true≢false, eqb-true, eqb-false, ltb-true}
 use Rattle.std.proofs.lemmas.Bool.Decides.{nat_tests}
 use Rattle.token.specs.Bytes.{white, letter, mark, digit}
-use Rattle.token.specs.Lex.{front, digits_len, sign_len, whole_len, number_len, name_len}
+use Rattle.token.specs.Lex.{front, number_len, name_len}
 use Rattle.token.specs.Numbers.{Number, Longest}
-use Rattle.token.specs.Tokens.{Tok, name, number, sign, Ahead, token, end, none, ahead, token_len, token_of}
+use Rattle.token.specs.Tokens.{number, Ahead, token, end, none, ahead, token_len, token_of}
 use Rattle.token.specs.Layout.{Piece, word, numeric, punct, written, tok, Fair, Laid, layout, Lays, tokens_of, Clean, LaidOut, AsLaidOut, WasLaidOut}
 use Rattle.token.proofs.Going.{go, arrives}
-use Rattle.token.proofs.Numbers.{Cut, cut_rest, leading_cut, number_cut}
+use Rattle.token.proofs.Numbers.{cut_rest, leading_cut, number_cut}
 use Rattle.token.proofs.Longest.{leading_exact, leading_stop, longest_len, cut_longest, number_some}
 
 name_word : (w more : List ℕ) → 0 < length w → All (λ b. letter b ≡ true) w → name_len (34 ∷ (w ++ 34 ∷ more)) ≡ 2 + length w

@@ -1,12 +1,11 @@
 -- The number at the front of some bytes is the longest one.
-use Rattle.std.proofs.Common.{◌≡◌, ℕ, zero, suc, ◌+◌, ◌<◌, ◌≤◌, Bool, true, false, cond, ◌&&◌, ◌||◌, eqb, ltb, ◌⊎◌, List, [], ◌∷◌, ◌++◌, length, get_or, drop, sym, refl, ap, ◌∙◌, subst, inl, inr, append_assoc, add-zero, one-add, arith}
+use Rattle.std.proofs.Common.{◌≡◌, ℕ, ◌+◌, ◌<◌, Bool, true, false, cond, ◌&&◌, ◌||◌, eqb, ltb, ◌⊎◌, List, [], ◌∷◌, ◌++◌, length, drop, sym, refl, ap, ◌∙◌, subst, inl, inr, append_assoc, arith}
 use Rattle.std.specs.List.{prefix_len, AllByRecursion as All}
 use Rattle.std.proofs.lemmas.List.{drop_at, get_or_append_left, length-append}
-use Rattle.std.proofs.lemmas.Bool.{eqb-true, eqb-false, ltb-true, ne_eqb, or_cases, true≢false}
-use Rattle.std.proofs.lemmas.Bool.Decides.{nat_tests}
+use Rattle.std.proofs.lemmas.Bool.{eqb-true, eqb-false, ltb-true, or_cases}
 use Rattle.token.specs.Bytes.{digit}
 use Rattle.token.specs.Lex.{front, digits_len, sign_len, whole_len, fraction_len, power_len, exponent_len, tail_len, number_len}
-use Rattle.token.specs.Numbers.{Digits, Minus, Whole, Fraction, Signed, Power, Exponent, Number, Longest}
+use Rattle.token.specs.Numbers.{Digits, Minus, Whole, Fraction, Signed, Power, Exponent, Number}
 
 -- the first n of some bytes are of a kind
 pub record Cut (n : ℕ) (K : List ℕ → Type 0) (bs : List ℕ) : Type 0 where

@@ -1,6 +1,6 @@
 -- The value of a number token is the number that it writes.
-use Rattle.std.proofs.Common.{◌≡◌, ℕ, ◌+◌, ◌-◌, ◌*◌, ◌/◌, ◌%◌, ◌^◌, ◌<◌, ◌≤◌, Bool, true, false, cond, ◌&&◌, eqb, leb, ◌⊎◌, List, [], ◌∷◌, ◌++◌, length, get_or, drop, Some, None, Ok, Err, decimal, Option, Result, sym, refl, ap, ◌∙◌, subst, inl, inr, append_assoc, arith, rules}
-use Rattle.std.specs.List.{prefix_len, AllByRecursion as All}
+use Rattle.std.proofs.Common.{◌≡◌, ℕ, ◌+◌, ◌-◌, ◌*◌, ◌/◌, ◌%◌, ◌^◌, ◌<◌, ◌≤◌, Bool, true, false, cond, ◌&&◌, leb, ◌⊎◌, List, [], ◌∷◌, ◌++◌, length, Some, None, Ok, Err, decimal, Option, Result, sym, refl, ap, ◌∙◌, subst, inl, inr, append_assoc, arith, rules}
+use Rattle.std.specs.List.{AllByRecursion as All}
 use Rattle.std.specs.Str.{all_ascii_digits}
 use Rattle.std.proofs.lemmas.List.{append-nil, get_or_append_left}
 use Rattle.std.proofs.lemmas.Fmt.{decimal_by_steps, decimal-digits_value}
@@ -10,8 +10,8 @@ use Rattle.std.proofs.lemmas.Bool.Decides.{nat_tests}
 use Rattle.fault.specs.declared.Fault.{Fault}
 use Rattle.token.specs.Bytes.{digit}
 use Rattle.token.specs.Lex.{front}
-use Rattle.token.specs.Numbers.{Digits, Minus, Whole, Fraction, Power, Exponent, Number}
-use Rattle.token.specs.Tokens.{Tok, name, number, sign, Ahead, token, end, none, ahead, Out, gives, denies, out}
+use Rattle.token.specs.Numbers.{Minus, Whole, Fraction, Exponent, Number}
+use Rattle.token.specs.Tokens.{name, number, sign, Ahead, token, end, none, ahead, gives, out}
 use Rattle.token.specs.Grammar.{numeral, fit, number_due}
 use Rattle.token.specs.Plain.{Plain, ReadsPlain}
 use Rattle.token.proofs.Longest.{number_some}

@@ -1,5 +1,5 @@
 -- The kinds of bytes.
-use Rattle.std.specs.Prelude.{ℕ, Bool, true, false, ◌&&◌, ◌||◌, ◌==◌, nat_le}
+use Rattle.std.specs.Prelude.{ℕ, Bool, ◌&&◌, ◌||◌, ◌==◌, nat_le}
 use Rattle.token.specs.declared.bytes.Class.{Class}
 use Rattle.token.specs.declared.bytes.Class.TheVariants.{White, Letter, Digit}
 

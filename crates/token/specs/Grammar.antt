@@ -3,7 +3,7 @@ use Rattle.std.specs.Prelude.{◌≡◌, ℕ, suc, ◌+◌, ◌-◌, ◌*◌, �
 use Rattle.std.specs.Str.{bytes_eq}
 use Rattle.token.specs.Bytes.{digit}
 use Rattle.token.specs.Lex.{front}
-use Rattle.token.specs.Tokens.{Tok, name, number, sign, place_of, Ahead, token, end, none, Out, gives, denies, no_token, other_due, unfit, step}
+use Rattle.token.specs.Tokens.{Tok, name, number, sign, place_of, Ahead, token, end, none, Out, gives, denies, other_due, unfit, step}
 
 -- one call after another
 abbrev pub then : {A B : Type 0} → Out A → (A → Ahead → Out B) → Out B

@@ -1,7 +1,7 @@
 -- How long the token at the front of some bytes is.
-use Rattle.std.specs.Prelude.{ℕ, ◌+◌, Bool, true, false, cond, ◌&&◌, ◌||◌, List, [], ◌∷◌, drop, ◌==◌, nat_lt, slice_index}
+use Rattle.std.specs.Prelude.{ℕ, ◌+◌, cond, ◌&&◌, ◌||◌, List, drop, ◌==◌, nat_lt, slice_index}
 use Rattle.std.specs.List.{prefix_len}
-use Rattle.token.specs.Bytes.{digit, letter, mark}
+use Rattle.token.specs.Bytes.{digit, letter}
 
 -- the byte at the front, 0 where there is none
 abbrev pub front : List ℕ → ℕ

@@ -1,4 +1,4 @@
-use Rattle.std.proofs.Common.{sym, refl, ap, ◌∙◌}
+use Rattle.std.proofs.Common.{sym, ◌∙◌}
 use Rattle.std.proofs.lemmas.List.{at_drop_all}
 use Rattle.token.specs.Grammar.{numeral}
 use Rattle.token.proofs.Turns.{numeral_yes, numeral_no, numeral_high}
