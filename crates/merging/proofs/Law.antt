@@ -7,7 +7,7 @@ use Rattle.abstraction.specs.Lists.{In}
 use Rattle.abstraction.specs.declared.scope.Scope.{Scope}
 use Rattle.ranking.specs.declared.Item.{Item}
 use Rattle.ranking.specs.declared.Region.{Region}
-use Rattle.ranking.specs.Items.{none, whole_at, rank_at, places, ceiling, each}
+use Rattle.ranking.specs.Items.{none, whole_at, rank_at, places, ceiling}
 use Rattle.ranking.specs.Ranks.{Gapless}
 use Rattle.ranking.specs.Close.{shut}
 use Rattle.ranking.specs.Rotation.{greatest, turns}

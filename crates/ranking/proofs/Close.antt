@@ -1,12 +1,12 @@
-use Rattle.std.proofs.Common.{◌≡◌, ℕ, zero, suc, ◌+◌, ◌-◌, ◌/◌, ◌%◌, ◌<◌, ◌≤◌, min, Bool, true, false, cond, ◌||◌, eqb, ◌⊎◌, List, [], ◌∷◌, map, length, get_or, sym, refl, ap, ◌∙◌, subst, inl, inr, ⊎_elim, arith}
+use Rattle.std.proofs.Common.{◌≡◌, ℕ, zero, suc, ◌+◌, ◌-◌, ◌<◌, ◌≤◌, Bool, true, cond, eqb, ◌⊎◌, List, [], ◌∷◌, length, sym, refl, ap, ◌∙◌, inl, inr, ⊎_elim, arith}
 use Rattle.std.proofs.lemmas.List.{length-map, get_or-map}
 use Rattle.std.proofs.lemmas.Bool.{cases_lt, cases_eq, cases_Bool, false≢true}
 use Rattle.std.proofs.lemmas.Bool.Decides.{nat_tests}
 use Rattle.ranking.specs.declared.Item.{Item}
 use Rattle.ranking.specs.Items.{none, whole_at, rank_at}
-use Rattle.ranking.specs.Ranks.{Gapless, Orders, Zeros, Ranks, Held, Past}
+use Rattle.ranking.specs.Ranks.{Gapless, Ranks}
 use Rattle.ranking.specs.Close.{has_rank, steps, shut_item, shut}
-use Rattle.ranking.proofs.Steps.{rekeyed, unique, ranks_same}
+use Rattle.ranking.proofs.Steps.{ranks_same}
 
 -- u tells which numbers are among the first m keys
 pub record Uses (m : ℕ) (κ : ℕ → ℕ) (u : ℕ → Bool) : Type 0 where

@@ -1,5 +1,4 @@
-use Rattle.std.proofs.Common.{◌≡◌, ℕ, zero, suc, ◌+◌, ◌<◌, ◌≤◌, List, [], ◌∷◌, ◌++◌, length, get_or, take, drop, set, sym, refl, ap, ◌∙◌, add-zero, add-suc, suc-add, zero-add, add-one, arith}
-use Rattle.std.proofs.lemmas.List.{take_all, drop_all, get_or-append_right, length-take-le}
+use Rattle.std.proofs.Common.{◌≡◌, ℕ, zero, suc, ◌+◌, ◌<◌, List, [], ◌∷◌, ◌++◌, length, get_or, take, drop, set, sym, refl, ap, ◌∙◌, add-zero, zero-add, add-one, arith}
 use Rattle.ranking.specs.Items.{each}
 
 pub length_each : {X : Type 0} (f : ℕ → X → X) (k : ℕ) (xs : List X) → length (each f k xs) ≡ length xs

@@ -1,8 +1,8 @@
-use Rattle.std.proofs.Common.{◌≡◌, ℕ, zero, suc, ◌+◌, ◌-◌, ◌*◌, ◌/◌, ◌%◌, ◌<◌, ◌≤◌, min, Bool, true, false, cond, eqb, ◌⊎◌, sym, refl, ap, ◌∙◌, inl, inr, ⊎_elim, add-mul, arith}
-use Rattle.std.proofs.lemmas.Bool.{cases_order, cases_lt, cases_eq}
+use Rattle.std.proofs.Common.{◌≡◌, ℕ, zero, suc, ◌+◌, ◌-◌, ◌*◌, ◌/◌, ◌%◌, ◌<◌, ◌≤◌, min, cond, eqb, ◌⊎◌, refl, inl, inr, ⊎_elim, add-mul, arith}
+use Rattle.std.proofs.lemmas.Bool.{cases_lt, cases_eq}
 use Rattle.std.proofs.lemmas.Bool.Decides.{nat_tests}
 use Rattle.std.proofs.lemmas.Nat.{div-mul-add, mod-mul-add, mod_below, div-add-mod'}
-use Rattle.ranking.specs.Ranks.{Gapless, Orders, Zeros, Ranks, Held, Past}
+use Rattle.ranking.specs.Ranks.{Orders, Zeros, Ranks, Held, Past}
 
 module _ (m : ℕ) (ρ σ κ : ℕ → ℕ) (r : Ranks m ρ κ) (s : Ranks m σ κ) where
   unique_le : (b i : ℕ) → i < m → ρ i ≤ b → ρ i ≤ σ i

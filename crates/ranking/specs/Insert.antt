@@ -1,5 +1,4 @@
-use Rattle.std.specs.Prelude.{◌≡◌, ℕ, ◌+◌, ◌*◌, ◌<◌, ◌≤◌, Bool, cond, ◌==◌, ◌≢◌}
-use Rattle.ranking.specs.Ranks.{Ranks, Gapless}
+use Rattle.std.specs.Prelude.{◌≡◌, ℕ, ◌*◌, ◌<◌, ◌≤◌, cond, ◌==◌, ◌≢◌}
 
 -- the ranks σ keep the zeros and the order of ρ but at the place p
 pub record Agrees (m p : ℕ) (ρ σ : ℕ → ℕ) : Type 0 where

@@ -1,4 +1,4 @@
-use Rattle.std.specs.Prelude.{◌≡◌, ℕ, suc, ◌+◌, ◌-◌, ◌*◌, ◌<◌, ◌≤◌, min, List, [], ◌∷◌, length, replicate, slice_index, slice_index_or}
+use Rattle.std.specs.Prelude.{◌≡◌, ℕ, suc, ◌+◌, ◌*◌, min, List, [], ◌∷◌, length, slice_index, slice_index_or}
 use Rattle.abstraction.specs.declared.scope.Scope.{Scope}
 use Rattle.ranking.specs.declared.Item.{Item}
 use Rattle.ranking.specs.declared.Region.{Region}

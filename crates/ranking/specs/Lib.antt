@@ -1,5 +1,6 @@
 pub mod Ranks
 pub mod Items
+pub mod Equal
 pub mod Lawful
 pub mod Close
 pub mod Rotation

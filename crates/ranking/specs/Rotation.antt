@@ -1,4 +1,4 @@
-use Rattle.std.specs.Prelude.{◌≡◌, ℕ, zero, suc, ◌+◌, ◌<◌, ◌≤◌, min, max, Bool, true, false, cond, ◌||◌, List, [], ◌∷◌, ◌++◌, map, take, drop, ◌==◌}
+use Rattle.std.specs.Prelude.{ℕ, zero, suc, ◌+◌, min, max, Bool, false, cond, ◌||◌, List, [], ◌∷◌, ◌++◌, map, take, drop, ◌==◌}
 use Rattle.ranking.specs.declared.Item.{Item}
 use Rattle.ranking.specs.declared.Region.{Region}
 use Rattle.ranking.specs.Items.{each, with_items}

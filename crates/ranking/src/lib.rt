@@ -4,14 +4,12 @@
 // their ranks, and lists that hold each region once.
 
 ghost use Rattle.std.specs.Prelude.{◌≡◌, ℕ, ◌+◌, ◌<◌, ◌≤◌, Bool, true, List, ◌++◌, map, length, Decides, nat_eq};
-ghost use Rattle.std.specs.Ordering.{on, eq_of_both};
 ghost use Rattle.abstraction.specs.Room.{shapes as shapes-of};
 ghost use Rattle.ranking.specs.Items.{places, ceiling as ceiling-of, each};
 ghost use Rattle.ranking.specs.Close.{has_rank, lesser, over, next_rank, steps, shut_item, shut, closed as closed-up};
 ghost use Rattle.ranking.specs.Rotation.{has_zero, greatest, raised, fallen, rotated, turned as turned-once};
 ghost use Rattle.ranking.specs.Joined.{lists, join as joined};
-ghost use Rattle.std.specs.Cmp.Rules.{comparing};
-ghost use Rattle.std.proofs.Common.{rules};
+ghost use Rattle.ranking.specs.Equal.{item_eq, item_eq_laws, region_eq, region_eq_laws};
 
 use abstraction::{Listing, Scope};
 
@@ -23,11 +21,14 @@ pub struct Item {
 }
 
 impl PartialEq for Item {
-    ghost eq = { eq_of_both (on (λ v. v.whole) nat_eq) (on (λ v. v.rank) nat_eq) };
+    ghost eq = { item_eq };
 
-    ghost laws = { Prim.search (comparing, rules) };
+    ghost laws = { item_eq_laws };
 
-    fn eq(&self, other: &Item) -> bool {
+    fn eq(&self, other: &Item) -> bool
+        ensures value { result ≡ item_eq self.now other.now }
+        ensures decides { Decides result (self.now ≡ other.now) }
+    {
         self.whole == other.whole && self.rank == other.rank
     }
 }
@@ -40,11 +41,14 @@ pub struct Region {
 }
 
 impl PartialEq for Region {
-    ghost equals = { λ a b r. Decides r (a ≡ b) };
+    ghost eq = { region_eq };
 
-    ghost laws = { Prim.search (comparing, rules) };
+    ghost laws = { region_eq_laws };
 
-    fn eq(&self, other: &Region) -> bool {
+    fn eq(&self, other: &Region) -> bool
+        ensures value { result ≡ region_eq self.now other.now }
+        ensures decides { Decides result (self.now ≡ other.now) }
+    {
         self.items == other.items
     }
 }

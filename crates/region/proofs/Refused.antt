@@ -1,6 +1,6 @@
-use Rattle.std.proofs.Common.{◌≡◌, ℕ, ◌<◌, Bool, true, false, cond, ◌&&◌, ltb, List, [], ◌∷◌, get_or, sym, refl, ap, ◌∙◌, ⊎_elim}
+use Rattle.std.proofs.Common.{◌≡◌, ℕ, Bool, true, false, ◌&&◌, ltb, [], ◌∷◌, get_or, ⊎_elim}
 use Rattle.std.proofs.lemmas.Bool.{cases_Bool, cond-false, and_left, and_parts, ltb-true}
-use Rattle.abstraction.specs.Bounds.{Fits, fits}
+use Rattle.abstraction.specs.Bounds.{fits}
 use Rattle.abstraction.proofs.Tests.{fits_true}
 use Rattle.abstraction.specs.declared.interval.Interval.{Interval}
 use Rattle.abstraction.specs.declared.scope.Scope.{Scope}

@@ -1,10 +1,9 @@
-use Rattle.std.proofs.Common.{◌≡◌, ℕ, suc, ◌+◌, ◌<◌, ◌≤◌, List, map, length, get_or, sym, refl, ap, ◌∙◌, add-one, arith}
-use Rattle.std.specs.List.{range_with_len}
+use Rattle.std.proofs.Common.{◌≡◌, ℕ, ◌+◌, ◌<◌, ◌≤◌, List, length, get_or, sym, ap, ◌∙◌, add-one, arith}
 use Rattle.std.proofs.lemmas.List.FromFn.{fill_by_all}
 use Rattle.abstraction.specs.declared.interval.Interval.{Interval}
 use Rattle.abstraction.specs.declared.scope.Scope.{Scope}
 use Rattle.ranking.specs.declared.Region.{Region}
-use Rattle.ranking.specs.Items.{none, with_items}
+use Rattle.ranking.specs.Items.{none}
 use Rattle.ranking.specs.Rotation.{turned, turned_by}
 use Rattle.ranking.specs.Joined.{repeat}
 use Rattle.ranking.proofs.Joined.{region_same}

@@ -1,10 +1,10 @@
-use Rattle.std.specs.Prelude.{◌≡◌, ℕ, zero, suc, ◌+◌, ◌-◌, ◌*◌, ◌/◌, ◌%◌, ◌<◌, ◌≤◌, min, Bool, true, false, cond, ◌&&◌, ◌⊎◌, List, [], ◌∷◌, ◌++◌, map, length, get_or, take, replicate, ◌≢◌, nat_lt, slice_index, slice_index_or, slice_set, refl}
-use Rattle.std.proofs.Common.{sym, ap, ◌∙◌, subst, inl, inr, ⊎_elim, arith, add-zero, zero-add, length-append, length-set}
+use Rattle.std.specs.Prelude.{◌≡◌, ℕ, zero, suc, ◌+◌, ◌-◌, ◌/◌, ◌%◌, ◌<◌, ◌≤◌, min, true, ◌&&◌, List, [], ◌∷◌, length, get_or, take, replicate, ◌≢◌, nat_lt, slice_index, slice_index_or, slice_set, refl}
+use Rattle.std.proofs.Common.{sym, ap, ◌∙◌, subst, ⊎_elim, arith, add-zero, zero-add, length-append, length-set}
 use Rattle.std.proofs.Math.Nat.{zero-div, zero-mod}
 use Rattle.std.proofs.lemmas.List.{take_at, drop_at, ext_get_or, length-replicate, get_or-replicate, drop-replicate, get_or-take, get_or_past, get_or-set_same, get_or-set_other}
-use Rattle.std.proofs.lemmas.Bool.{cases_lt, cases_eq, cond-true, and_from, lt-ltb}
+use Rattle.std.proofs.lemmas.Bool.{cond-true, and_from, lt-ltb}
 use Rattle.abstraction.specs.Owes.{Small}
-use Rattle.abstraction.specs.Bounds.{Inside, Fits, fits}
+use Rattle.abstraction.specs.Bounds.{Inside, Fits}
 use Rattle.abstraction.specs.Frames.{Frame, Framed, plus, zeros, later, assigned, pushed}
 use Rattle.abstraction.specs.Lists.{In}
 use Rattle.abstraction.proofs.Tests.{fits_from}
@@ -12,22 +12,21 @@ use Rattle.abstraction.specs.declared.interval.Interval.{Interval}
 use Rattle.abstraction.specs.declared.scope.Scope.{Scope}
 use Rattle.ranking.specs.declared.Item.{Item}
 use Rattle.ranking.specs.declared.Region.{Region}
-use Rattle.ranking.specs.Ranks.{Gapless, Ranks, Held}
+use Rattle.ranking.specs.Ranks.{Ranks}
 use Rattle.ranking.specs.Items.{none, whole_at, rank_at, places, ceiling, with_items, Holds}
-use Rattle.ranking.specs.Lawful.{front, Shaped, Lawful, Lies}
-use Rattle.ranking.specs.Insert.{Agrees}
+use Rattle.ranking.specs.Lawful.{front, Lawful, Lies}
 use Rattle.ranking.specs.Close.{shut}
-use Rattle.ranking.specs.Rotation.{turns, turned_by}
-use Rattle.ranking.proofs.Steps.{unique, ranks_same, rekeyed}
+use Rattle.ranking.specs.Rotation.{turned_by}
+use Rattle.ranking.proofs.Steps.{unique, ranks_same}
 use Rattle.ranking.proofs.Close.{shut_ranks, shut_whole, length_shut}
-use Rattle.ranking.proofs.Lists.{held_same, time_covers}
+use Rattle.ranking.proofs.Lists.{time_covers}
 use Rattle.ranking.proofs.Joined.{same_item}
 use Rattle.region.specs.Asked.{lawful, lies_in, asks, clocks_of}
 use Rattle.region.specs.Listed.{start, time, test, assign, source, opened, push}
-use Rattle.region.specs.Laws.{Exactly, Owed, values, items_of, region_of, covers, CoveredOnce}
-use Rattle.region.specs.Shapes.{few_places, front_long, same_front, lawful_holds, lawful_only}
+use Rattle.region.specs.Laws.{Owed, values, items_of, region_of, covers, CoveredOnce}
+use Rattle.region.specs.Shapes.{few_places, front_long, same_front, lawful_only}
 use Rattle.region.specs.Times.{turns_front, time_exactly}
-use Rattle.region.specs.Fills.{Base, same_zero, assign_base, push_base, assign_exactly, push_exactly, opened_at, past_front, source_cases}
+use Rattle.region.specs.Fills.{assign_exactly, push_exactly, opened_at, past_front}
 use Rattle.region.specs.ValuesLemmas.{length_values, values_later, values_zeros, values_clock, values_assigned, framed_pushed, values_age, values_pushed}
 use Rattle.region.specs.Span.{lies_from}
 

@@ -1,28 +1,26 @@
-use Rattle.std.specs.Prelude.{◌≡◌, ℕ, zero, suc, ◌+◌, ◌-◌, ◌*◌, ◌<◌, ◌≤◌, min, Bool, true, false, cond, not, ◌&&◌, ◌||◌, ltb, ◌⊎◌, List, [], ◌∷◌, ◌++◌, map, length, get_or, drop, replicate, ◌==◌, ◌≢◌, nat_lt, slice_index_or, slice_set, refl}
+use Rattle.std.specs.Prelude.{◌≡◌, ℕ, zero, suc, ◌+◌, ◌-◌, ◌*◌, ◌<◌, ◌≤◌, Bool, true, false, not, ◌&&◌, ◌||◌, ltb, ◌⊎◌, List, [], ◌∷◌, map, length, get_or, drop, replicate, ◌==◌, ◌≢◌, nat_lt, slice_index_or, slice_set, refl}
 use Rattle.std.proofs.Common.{sym, ap, ◌∙◌, subst, inl, inr, ⊎_elim, arith, mul-one, length-set}
-use Rattle.std.specs.List.{range_with_len}
 use Rattle.std.proofs.lemmas.List.{length-map, get_or-map, get_or-take, get_or-drop, get_or_past, get_or-set_same, get_or-set_other, drop-set-lt, drop-map, ext_get_or, length-replicate, get_or-replicate, length-drop}
 use Rattle.std.proofs.lemmas.List.FromFn.{length-map-range_with_len, get_or-map-range_with_len}
 use Rattle.std.proofs.lemmas.Bool.{cases_Bool, cases_eq, cases_lt, cond-true, cond-false, and_parts, and_from, ltb-true, both_ways}
 use Rattle.std.proofs.lemmas.Bool.Decides.{nat_tests}
 use Rattle.std.proofs.lemmas.Nat.{mul-le}
 use Rattle.abstraction.specs.Bounds.{fits}
-use Rattle.abstraction.specs.Lists.{In}
 use Rattle.abstraction.specs.declared.interval.Interval.{Interval}
 use Rattle.abstraction.specs.declared.interval.Upper.{Upper}
 use Rattle.abstraction.specs.declared.interval.Upper.TheVariants.{Upto, Under, Unbounded}
 use Rattle.abstraction.specs.declared.scope.Scope.{Scope}
 use Rattle.ranking.specs.declared.Item.{Item}
 use Rattle.ranking.specs.declared.Region.{Region}
-use Rattle.ranking.specs.Ranks.{Gapless, Ranks}
+use Rattle.ranking.specs.Ranks.{Ranks}
 use Rattle.ranking.specs.Items.{none, whole_at, rank_at, places, ceiling, with_items}
 use Rattle.ranking.specs.Lawful.{front, Shaped, Lawful}
-use Rattle.ranking.specs.Insert.{Agrees, between}
-use Rattle.ranking.specs.Close.{shut, closed}
+use Rattle.ranking.specs.Insert.{between}
+use Rattle.ranking.specs.Close.{shut}
 use Rattle.ranking.specs.Rotation.{greatest}
-use Rattle.ranking.specs.Joined.{join, repeat, Adds, Below}
+use Rattle.ranking.specs.Joined.{join, Adds, Below}
 use Rattle.ranking.proofs.Steps.{unique, ranks_same}
-use Rattle.ranking.proofs.Close.{shut_ranks, shut_whole, length_shut, rank_few}
+use Rattle.ranking.proofs.Close.{shut_ranks, shut_whole, rank_few}
 use Rattle.ranking.proofs.Insert.{at_p, at_other, inserted, every_key}
 use Rattle.ranking.proofs.Lists.{rank_le, greatest_le}
 use Rattle.ranking.proofs.Joined.{same_item, join_adds, repeat_adds, adds_none, adds_like}

@@ -1,4 +1,4 @@
-use Rattle.std.specs.Prelude.{◌≡◌, ℕ, suc, ◌+◌, ◌-◌, ◌/◌, ◌%◌, ◌<◌, ◌≤◌, min, Bool, true, List, [], ◌∷◌, ◌++◌, length, replicate, ◌≢◌, slice_index_or}
+use Rattle.std.specs.Prelude.{◌≡◌, ℕ, suc, ◌+◌, ◌-◌, ◌/◌, ◌%◌, ◌<◌, ◌≤◌, min, true, List, [], ◌∷◌, ◌++◌, length, replicate, ◌≢◌, slice_index_or}
 use Rattle.abstraction.specs.Owes.{Small}
 use Rattle.abstraction.specs.Bounds.{Inside, Fits}
 use Rattle.abstraction.specs.Frames.{Frame, Framed}

@@ -1,4 +1,4 @@
-use Rattle.std.specs.Prelude.{ℕ, ◌+◌, ◌-◌, ◌*◌, min, Bool, true, false, cond, ◌&&◌, List, [], ◌∷◌, map, get_or, replicate, nat_lt, slice_index_or, slice_set}
+use Rattle.std.specs.Prelude.{ℕ, ◌+◌, ◌-◌, ◌*◌, min, cond, ◌&&◌, List, [], ◌∷◌, map, get_or, replicate, nat_lt, slice_index_or, slice_set}
 use Rattle.std.specs.List.{range_with_len}
 use Rattle.abstraction.specs.Bounds.{fits}
 use Rattle.abstraction.specs.declared.interval.Interval.{Interval}

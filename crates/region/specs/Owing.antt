@@ -1,8 +1,8 @@
-use Rattle.std.specs.Prelude.{◌≡◌, ℕ, ◌+◌, ◌*◌, ◌<◌, ◌≤◌, min, Bool, true, false, cond, ◌&&◌, ◌⊎◌, List, [], ◌∷◌, length, get_or, nat_lt, slice_index, slice_index_or, refl}
-use Rattle.std.proofs.Common.{sym, ap, ◌∙◌, subst, inl, inr, ⊎_elim, arith}
+use Rattle.std.specs.Prelude.{◌≡◌, ℕ, ◌+◌, ◌<◌, ◌≤◌, Bool, true, false, cond, ◌&&◌, List, [], ◌∷◌, get_or, nat_lt, slice_index, slice_index_or, refl}
+use Rattle.std.proofs.Common.{sym, ap, ◌∙◌, subst, arith}
 use Rattle.std.proofs.lemmas.List.{get_or-take}
-use Rattle.std.proofs.lemmas.Bool.{cases_Bool, cond-true, cond-false, and_from, and_left, and_right, and_parts, lt-ltb, both_ways}
-use Rattle.abstraction.specs.Owes.{Answers, Small, Lawfully, ListingLaws, ListsLawfully, Covered, CoversAt, Covers}
+use Rattle.std.proofs.lemmas.Bool.{and_from, lt-ltb, both_ways}
+use Rattle.abstraction.specs.Owes.{Small, Lawfully, ListsLawfully, Covers}
 use Rattle.abstraction.specs.Bounds.{Inside, Fits, fits}
 use Rattle.abstraction.specs.Frames.{Frame, Framed, plus, popped}
 use Rattle.abstraction.specs.Lists.{In}
@@ -11,9 +11,7 @@ use Rattle.abstraction.specs.declared.interval.Interval.{Interval}
 use Rattle.abstraction.specs.declared.scope.Scope.{Scope}
 use Rattle.ranking.specs.declared.Region.{Region}
 use Rattle.ranking.specs.Items.{none, places, ceiling}
-use Rattle.ranking.specs.Lawful.{front, Lawful, Lies}
-use Rattle.ranking.specs.Rotation.{turned_by}
-use Rattle.ranking.specs.Joined.{same_region, Once}
+use Rattle.ranking.specs.Lawful.{front, Lawful}
 use Rattle.ranking.proofs.Joined.{same_decides}
 use Rattle.merging.specs.Pop.{pops}
 use Rattle.merging.specs.Law.{Pops, Popped}
@@ -21,7 +19,7 @@ use Rattle.merging.proofs.Law.{pop_law}
 use Rattle.region.specs.declared.Regions.{Regions}
 use Rattle.region.specs.Asked.{lawful, lies_in, asks, clocks_of, pop_asks}
 use Rattle.region.specs.Listed.{time, test, assign, opened, push, pop}
-use Rattle.region.specs.Laws.{Exactly, Rotates, Owed, covers, values, ItemOf, ListsHold, ListsExactly, FramesOnce}
+use Rattle.region.specs.Laws.{Exactly, Rotates, Owed, covers, values, ListsExactly, FramesOnce}
 use Rattle.region.specs.Regions.{regions, covering}
 use Rattle.region.specs.Shapes.{few_places, lawful_holds, lawful_only}
 use Rattle.region.specs.Times.{turns_lawful, time_exactly}

@@ -1,30 +1,27 @@
-use Rattle.std.specs.Prelude.{◌≡◌, ℕ, zero, suc, ◌+◌, ◌-◌, ◌*◌, ◌/◌, ◌%◌, ◌<◌, ◌≤◌, min, Bool, true, false, cond, ◌&&◌, ◌⊎◌, List, [], ◌∷◌, ◌++◌, map, length, get_or, take, drop, replicate, slice_index, slice_index_or, refl}
-use Rattle.std.proofs.Common.{sym, ap, ◌∙◌, subst, inl, inr, ⊎_elim, arith, zero-add, length-append, length-drop}
-use Rattle.std.proofs.Math.Nat.{zero-div, zero-mod}
-use Rattle.std.proofs.lemmas.List.{take_at, drop_at, take-append-drop, append_assoc, map-append, ext_get_or, length-take-le, length-replicate, get_or-take, get_or-drop, get_or_append_left, get_or-append_right, get_or_at, get_or_past, drop-append-le, length-map}
+use Rattle.std.specs.Prelude.{◌≡◌, ℕ, suc, ◌+◌, ◌-◌, ◌*◌, ◌/◌, ◌%◌, ◌<◌, ◌≤◌, min, List, [], ◌∷◌, ◌++◌, length, get_or, take, drop, replicate, slice_index, slice_index_or, refl}
+use Rattle.std.proofs.Common.{sym, ap, ◌∙◌, subst, ⊎_elim, arith, zero-add, length-append, length-drop}
+use Rattle.std.proofs.lemmas.List.{take_at, drop_at, append_assoc, map-append, ext_get_or, length-take-le, length-replicate, get_or-take, get_or-drop, get_or_append_left, get_or-append_right, get_or_at, get_or_past, drop-append-le, length-map}
 use Rattle.std.specs.List.{insert}
 use Rattle.std.proofs.lemmas.List.Edits.{length-insert, get_or-insert_below, get_or-insert_at, get_or-insert_above}
 use Rattle.std.proofs.lemmas.Bool.{cases_lt, cases_eq}
 use Rattle.std.proofs.lemmas.Bool.Decides.{nat_tests}
 use Rattle.abstraction.specs.Frames.{Frame, Framed, plus, popped}
-use Rattle.abstraction.specs.declared.scope.Scope.{Scope}
 use Rattle.ranking.specs.declared.Item.{Item}
 use Rattle.ranking.specs.declared.Region.{Region}
-use Rattle.ranking.specs.Ranks.{Gapless, Ranks, Held}
-use Rattle.ranking.specs.Items.{none, whole_at, rank_at, places, ceiling, with_items, each, Holds}
-use Rattle.ranking.specs.Lawful.{front, Shaped, Lawful, Lies}
+use Rattle.ranking.specs.Ranks.{Gapless, Ranks}
+use Rattle.ranking.specs.Items.{none, rank_at, Holds}
+use Rattle.ranking.specs.Lawful.{front, Lies}
 use Rattle.ranking.specs.Close.{shut}
 use Rattle.ranking.specs.Rotation.{turns}
 use Rattle.ranking.proofs.Each.{length_each, getD_each}
-use Rattle.ranking.proofs.Steps.{unique, ranks_same, rekeyed}
+use Rattle.ranking.proofs.Steps.{unique, rekeyed}
 use Rattle.ranking.proofs.Close.{shut_ranks, shut_whole, length_shut}
 use Rattle.ranking.proofs.Lists.{time_covers}
 use Rattle.ranking.proofs.Joined.{same_item}
-use Rattle.merging.specs.Law.{Joint, place_of, projected, Joins, with_mark, Pops, region_of as join-region}
-use Rattle.region.specs.Asked.{clocks_of}
-use Rattle.region.specs.Laws.{values, items_of, covers}
+use Rattle.merging.specs.Law.{Joint, place_of, projected, Joins, with_mark, region_of as join-region}
+use Rattle.region.specs.Laws.{values, items_of}
 use Rattle.region.specs.ValuesLemmas.{length_values}
-use Rattle.region.specs.Cover.{made_holds, Wide, wide}
+use Rattle.region.specs.Cover.{made_holds, wide}
 use Rattle.region.specs.Fills.{past_front}
 
 -- the items that hold given values are those of no other list

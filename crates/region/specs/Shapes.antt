@@ -1,17 +1,17 @@
-use Rattle.std.specs.Prelude.{◌≡◌, ℕ, zero, suc, ◌+◌, ◌-◌, ◌*◌, ◌<◌, ◌≤◌, min, Bool, true, false, ◌&&◌, ◌⊎◌, List, [], ◌∷◌, ◌++◌, map, length, drop, replicate, ◌==◌, nat_le, slice_index_or, refl}
-use Rattle.std.proofs.Common.{sym, ap, ◌∙◌, subst, inl, inr, ⊎_elim, arith, zero-add, add-zero, length-drop, length-append}
+use Rattle.std.specs.Prelude.{◌≡◌, ℕ, zero, suc, ◌+◌, ◌-◌, ◌<◌, ◌≤◌, true, ◌&&◌, List, [], ◌∷◌, ◌++◌, length, drop, replicate, ◌==◌, nat_le, slice_index_or, refl}
+use Rattle.std.proofs.Common.{sym, ap, ◌∙◌, subst, arith, add-zero, length-drop, length-append}
 use Rattle.std.proofs.lemmas.List.{length-take-le, take_at, drop_at, take-append-drop, ext_get_or}
-use Rattle.std.proofs.lemmas.Bool.{and_parts, and_from, leb-true, le-leb, eqb-true, eq-eqb, false≢true}
+use Rattle.std.proofs.lemmas.Bool.{and_parts, and_from, leb-true, le-leb, eqb-true, eq-eqb}
 use Rattle.abstraction.specs.Owes.{Small}
 use Rattle.abstraction.specs.declared.scope.Scope.{Scope}
 use Rattle.ranking.specs.declared.Item.{Item}
 use Rattle.ranking.specs.declared.Region.{Region}
-use Rattle.ranking.specs.Ranks.{Gapless, Ranks}
-use Rattle.ranking.specs.Items.{none, whole_at, rank_at, places, ceiling, with_items}
+use Rattle.ranking.specs.Ranks.{Gapless}
+use Rattle.ranking.specs.Items.{none, whole_at, rank_at, places, ceiling}
 use Rattle.ranking.specs.Lawful.{front, Shaped, Lawful}
 use Rattle.ranking.specs.Close.{shut, closed}
 use Rattle.ranking.specs.Joined.{same_region}
-use Rattle.ranking.proofs.Steps.{unique, ranks_same}
+use Rattle.ranking.proofs.Steps.{unique}
 use Rattle.ranking.proofs.Close.{shut_ranks, shut_whole, length_shut, own_ranks}
 use Rattle.ranking.proofs.Joined.{same_item, same_decides, region_same}
 use Rattle.region.specs.Asked.{small, wholes_fit, all_empty, in_order, lawful}

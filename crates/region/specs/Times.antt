@@ -1,27 +1,26 @@
-use Rattle.std.specs.Prelude.{◌≡◌, ℕ, zero, suc, ◌+◌, ◌-◌, ◌*◌, ◌<◌, ◌≤◌, min, Bool, true, false, cond, ◌⊎◌, List, [], ◌∷◌, ◌++◌, length, drop, ◌==◌, refl}
-use Rattle.std.proofs.Common.{sym, ap, ◌∙◌, subst, inl, inr, ⊎_elim, arith, mul-one, length-drop, length-append}
-use Rattle.std.proofs.lemmas.List.{take_at, drop_at, take-append-drop}
+use Rattle.std.specs.Prelude.{◌≡◌, ℕ, zero, suc, ◌+◌, ◌*◌, ◌<◌, ◌≤◌, min, true, false, cond, List, [], length, drop, ◌==◌, refl}
+use Rattle.std.proofs.Common.{sym, ap, ◌∙◌, subst, ⊎_elim, arith, mul-one, length-drop, length-append}
+use Rattle.std.proofs.lemmas.List.{take_at, drop_at}
 use Rattle.std.proofs.lemmas.Bool.{cases_Bool, cond-true}
 use Rattle.std.proofs.lemmas.Bool.Decides.{nat_tests}
 use Rattle.std.proofs.lemmas.Nat.{mul-le}
-use Rattle.abstraction.specs.Lists.{In}
 use Rattle.abstraction.specs.declared.scope.Scope.{Scope}
 use Rattle.ranking.specs.declared.Item.{Item}
 use Rattle.ranking.specs.declared.Region.{Region}
-use Rattle.ranking.specs.Ranks.{Gapless, Ranks}
-use Rattle.ranking.specs.Items.{none, whole_at, rank_at, places, ceiling}
+use Rattle.ranking.specs.Ranks.{Gapless}
+use Rattle.ranking.specs.Items.{whole_at, rank_at, places, ceiling}
 use Rattle.ranking.specs.Lawful.{front, Shaped, Lawful}
 use Rattle.ranking.specs.Rotation.{has_zero, greatest, rotated, turns, turned, turned_by}
-use Rattle.ranking.specs.Joined.{join, repeat, Once, Adds, Below}
+use Rattle.ranking.specs.Joined.{join, Adds, Below}
 use Rattle.ranking.proofs.Steps.{ranks_same, risen, dropped}
 use Rattle.ranking.proofs.Close.{own_ranks, rank_few}
-use Rattle.ranking.proofs.Lists.{zero_at, no_zero, rank_le, greatest_le, length_rotated, at_up, at_over, length_turns}
+use Rattle.ranking.proofs.Lists.{zero_at, no_zero, rank_le, greatest_le, length_rotated, at_up, at_over}
 use Rattle.ranking.proofs.Turns.{every_turn, greatest_at}
-use Rattle.ranking.proofs.Joined.{join_adds, repeat_adds, adds_like, region_same}
+use Rattle.ranking.proofs.Joined.{join_adds, repeat_adds}
 use Rattle.region.specs.Asked.{lawful}
 use Rattle.region.specs.Listed.{highest, rounds, rotations, time}
 use Rattle.region.specs.Laws.{Exactly, Rotates}
-use Rattle.region.specs.Shapes.{few_places, low_ceiling, front_long, lawful_holds, same_front}
+use Rattle.region.specs.Shapes.{few_places, front_long, lawful_holds, same_front}
 
 -- additions to nothing, where all are allowed
 pub exactly_adds : (n : ℕ) (P Q : Region → Type 0) (xs : List Region) → n ≤ 1048576 → ((r : Region) → P r → Q r) → ((r : Region) → Q r → P r) → Adds n P [] xs → Exactly Q xs

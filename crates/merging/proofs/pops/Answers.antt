@@ -7,5 +7,5 @@ use Rattle.merging.proofs.pops.Goals as goal
 
 pub returns : goal.returns
 returns c =
-    let v : shapes c.try-rotations.new.out ≡ pops c.args.scope c.args.s c.args.u = search rules in
+    let v : shapes c.try_rotations.new.out ≡ pops c.args.scope c.args.s c.args.u = search rules in
     record { value = v; law = subst (PopLaw c.args.scope c.args.s c.args.u) (sym v) (pop_law c.args.scope c.args.s c.args.u) }

@@ -1,4 +1,4 @@
-use Rattle.std.proofs.Common.{◌≡◌, ap, ◌∙◌}
+use Rattle.std.proofs.Common.{ap, ◌∙◌}
 use Rattle.ranking.specs.Joined.{lists}
 use Rattle.ranking.proofs.Joined.{contains_lists}
 use Rattle.ranking.proofs.listed.Goals as goal

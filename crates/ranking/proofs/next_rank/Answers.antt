@@ -1,7 +1,7 @@
-use Rattle.std.proofs.Common.{◌≡◌, ◌+◌, get_or, drop, arith}
+use Rattle.std.proofs.Common.{◌+◌, get_or, drop, arith}
 use Rattle.std.proofs.lemmas.List.{at_drop_more, at_drop_all}
 use Rattle.ranking.specs.Items.{none}
-use Rattle.ranking.specs.Close.{lesser, over, next_rank}
+use Rattle.ranking.specs.Close.{over, next_rank}
 use Rattle.ranking.proofs.Next.{lesser_assoc, lesser_none}
 use Rattle.ranking.proofs.next_rank.Goals as goal
 

@@ -9,5 +9,5 @@ use Rattle.region.proofs.gapless.Goals as goal
 pub returns : goal.returns
 returns c =
     let t = closed (places c.args.scope) c.args.region in
-    let d : Decides c.eq.result (t ≡ c.args.region) = subst (λ s. Decides c.eq.result (s ≡ c.args.region)) c.closed.ensures c.eq.ensures in
+    let d : Decides c.eq.result (t ≡ c.args.region) = subst (λ s. Decides c.eq.result (s ≡ c.args.region)) c.closed.ensures c.eq.ensures.decides in
     same_from_decides c.eq.result (same_region t c.args.region) d (same_decides t c.args.region)

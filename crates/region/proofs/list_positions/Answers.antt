@@ -5,4 +5,4 @@ use Rattle.region.proofs.list_positions.Goals as goal
 
 pub loop-key-preserved : goal.loop-key-preserved
 loop-key-preserved c =
-    repeat_more c.loop-key.key (λ key. placing c.args.scope c.args.place c.args.interval c.args.region (record { whole = c.args.whole; rank = key })) (shapes c.args.out.now) (shapes c.loop-key.out) (shapes c.list-placed.new.out) c.loop-key.invariant c.list-placed.ensures
+    repeat_more c.loop-key.key (λ key. placing c.args.scope c.args.place c.args.interval c.args.region (record { whole = c.args.whole; rank = key })) (shapes c.args.out.now) (shapes c.loop-key.out) (shapes c.list_placed.new.out) c.loop-key.invariant c.list_placed.ensures

@@ -2,7 +2,7 @@ use Rattle.abstraction.specs.Room.{shapes}
 use Rattle.ranking.specs.Items.{places, ceiling}
 use Rattle.ranking.specs.Rotation.{turned_by}
 use Rattle.ranking.specs.Joined.{join}
-use Rattle.std.proofs.Common.{◌≡◌, ap, ◌∙◌}
+use Rattle.std.proofs.Common.{ap, ◌∙◌}
 use Rattle.region.proofs.Repeat.{repeat_more, turned_more}
 use Rattle.region.proofs.list_rotations.Goals as goal
 

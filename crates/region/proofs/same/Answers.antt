@@ -4,4 +4,4 @@ use Rattle.ranking.proofs.Joined.{same_decides}
 use Rattle.region.proofs.same.Goals as goal
 
 pub returns : goal.returns
-returns c = same_from_decides c.eq.result (same_region c.args.region c.args.other) c.eq.ensures (same_decides c.args.region c.args.other)
+returns c = same_from_decides c.eq.result (same_region c.args.region c.args.other) c.eq.ensures.decides (same_decides c.args.region c.args.other)
