@@ -1,17 +1,14 @@
 -- What is written reads back, piece by piece.
-use Rattle.std.proofs.Common.{◌≡◌, ℕ, zero, suc, ◌+◌, ◌-◌, ◌*◌, ◌/◌, ◌%◌, ◌^◌, ◌<◌, ◌≤◌, Bool, true, false, cond, eqb, leb, List, [], ◌∷◌, ◌++◌, map, Some, None, decimal, sym, refl, ap, ◌∙◌, append_assoc, arith, eq-eqb}
-use Rattle.std.specs.List.{AllByRecursion as All}
+use Rattle.std.proofs.Common.{◌≡◌, ℕ, ◌+◌, ◌-◌, ◌*◌, ◌/◌, ◌%◌, ◌^◌, ◌<◌, true, false, leb, List, [], ◌∷◌, ◌++◌, Some, decimal, refl, ap, ◌∙◌, append_assoc, arith, eq-eqb}
 use Rattle.std.specs.Str.{bytes_eq}
 use Rattle.std.proofs.lemmas.List.{append-nil}
 use Rattle.std.proofs.lemmas.Fmt.{decimal_by_steps}
 use Rattle.std.proofs.lemmas.Bool.Decides.{nat_tests}
 use Rattle.token.specs.Bytes.{digit}
-use Rattle.token.specs.Tokens.{Tok, name, number, sign, Ahead, token, end, none, Out, gives, denies, step}
-use Rattle.token.specs.Grammar.{then, numeral, mark_due, name_due, number_due, comma_due, member_due, mark_next, size, Falls}
-use Rattle.token.specs.Falls.{comma_falls}
-use Rattle.token.specs.Layout.{Piece, word, numeric, punct, tok}
+use Rattle.token.specs.Tokens.{Ahead, token, Out, gives}
+use Rattle.token.specs.Grammar.{then, numeral, mark_due, name_due, number_due, comma_due}
+use Rattle.token.specs.Layout.{Piece, word, punct, tok}
 use Rattle.text.specs.Written.{amount, Small}
-use Rattle.text.specs.Records.{items}
 
 -- a is tokens that show these pieces, wherever they stand, and then b
 abbrev pub Shows : List Piece → Ahead → Ahead → Type 0

@@ -1,7 +1,7 @@
 -- A text has no more tokens than bytes.
 use Rattle.std.proofs.Common.{ℕ, zero, suc, ◌+◌, ◌-◌, ◌≤◌, Bool, true, false, cond, eqb, List, [], ◌∷◌, length, arith}
 use Rattle.token.specs.Bytes.{white}
-use Rattle.token.specs.Tokens.{Ahead, token, end, none, token_len, token_of, ahead, tokens}
+use Rattle.token.specs.Tokens.{Ahead, none, token_len, ahead, tokens}
 use Rattle.token.specs.Grammar.{size}
 
 either : (t : Bool) (a b : Ahead) (m : ℕ) → size a ≤ m → size b ≤ m → size (cond t a b) ≤ m

@@ -1,26 +1,25 @@
 -- Every document reads back as itself, however it is laid out.
-use Rattle.std.proofs.Common.{◌≡◌, ℕ, zero, suc, ◌+◌, ◌<◌, ◌≤◌, Bool, true, false, cond, eqb, leb, List, [], ◌∷◌, ◌++◌, map, length, codes, sym, refl, ap, ◌∙◌, subst, append_assoc, arith, le-leb}
+use Rattle.std.proofs.Common.{◌≡◌, ℕ, zero, suc, ◌+◌, ◌<◌, true, false, leb, List, [], ◌∷◌, ◌++◌, map, length, codes, sym, refl, ap, ◌∙◌, subst, append_assoc, arith, le-leb}
 use Rattle.std.specs.List.{AllByRecursion as All}
 use Rattle.std.specs.Str.{bytes_eq}
 use Rattle.std.proofs.lemmas.List.{append-nil}
 use Rattle.automaton.specs.declared.model.Opening.{Opening}
 use Rattle.automaton.specs.declared.rule.RuleNumbers.{RuleNumbers}
-use Rattle.fault.specs.Faults.Outcome.{accepted}
 use Rattle.case.specs.Views.{View}
 use Rattle.case.specs.Calls.{new_case}
-use Rattle.token.specs.Tokens.{Tok, name, number, sign, Ahead, token, end, none, Out, gives, denies, tokens, admitted}
-use Rattle.token.specs.Grammar.{then, mark_due, number_due, comma_due, member_due, end_due, mark_next, size, Falls}
+use Rattle.token.specs.Tokens.{Ahead, end, Out, gives, tokens}
+use Rattle.token.specs.Grammar.{then, mark_due, number_due, comma_due, member_due, mark_next, size}
 use Rattle.token.specs.Falls.{comma_falls}
-use Rattle.token.specs.Layout.{Piece, word, numeric, punct, tok, Laid, written, tokens_of}
+use Rattle.token.specs.Layout.{Piece, word, punct, Laid, written, tokens_of}
 use Rattle.token.proofs.Layouts.{as_laid_out}
 use Rattle.text.specs.declared.asks.Ask.{Ask}
 use Rattle.text.specs.declared.asks.Ask.TheVariants.{Open, Add, Begin, Delay, Fire}
 use Rattle.text.specs.declared.asks.Kind.{Kind}
 use Rattle.text.specs.declared.asks.Kind.TheVariants.{Rules, Steps}
-use Rattle.text.specs.Records.{field_due, next_field_due, next_number_due, opening_due, rule_due, step_due, row_due, items, list_due, rows_due, object_due, model_due, scale_due, run_due}
+use Rattle.text.specs.Records.{field_due, next_field_due, next_number_due, opening_due, rule_due, step_due, row_due, items, rows_due, object_due, model_due, scale_due, run_due}
 use Rattle.text.specs.Calls.{Said, said_from, case_from}
-use Rattle.text.specs.Documents.{read, at_end, later, later_objects, first_said, first_object, document, settled_text}
-use Rattle.text.specs.Written.{Step, waits, fires, Run, Document, step_ask, model_asks, run_asks, runs_said, document_said, amount, next_amount, member_pieces, field_pieces, next_field_pieces, rule_pieces, step_pieces, items_pieces, list_pieces, opening_pieces, rows_pieces, model_pieces, run_pieces, runs_pieces, document_pieces, Small, SmallRule, SmallOpening, SmallStep, SmallRun, Writes, AsWritten}
+use Rattle.text.specs.Documents.{later, first_said, document, settled_text}
+use Rattle.text.specs.Written.{Step, waits, fires, Run, Document, step_ask, model_asks, run_asks, runs_said, document_said, amount, next_amount, member_pieces, field_pieces, next_field_pieces, rule_pieces, step_pieces, items_pieces, list_pieces, opening_pieces, rows_pieces, model_pieces, run_pieces, runs_pieces, document_pieces, Small, SmallRule, SmallOpening, SmallStep, SmallRun, AsWritten}
 use Rattle.text.proofs.Shrinks.{row_falls, run_falls}
 use Rattle.text.proofs.Back.{Shows, shows_append, Reads, reads_then, reads_gives, reads_mark, reads_name, reads_number, reads_more, reads_close}
 

@@ -1,9 +1,9 @@
 -- The turns of the loop over the rows of a list.
-use Rattle.std.proofs.Common.{◌≡◌, ℕ, zero, suc, ◌<◌, Bool, true, false, cond, List, [], ◌∷◌, ◌++◌, sym, refl, ap, ◌∙◌, arith}
+use Rattle.std.proofs.Common.{◌≡◌, ℕ, zero, suc, ◌<◌, true, false, List, [], ◌∷◌, ◌++◌, refl, ◌∙◌, arith}
 use Rattle.fault.specs.declared.Place.{Place}
 use Rattle.fault.specs.declared.Layer.{Layer}
 use Rattle.token.specs.Tokens.{Ahead, Out, gives, denies}
-use Rattle.token.specs.Grammar.{then, comma_due, size, Falls}
+use Rattle.token.specs.Grammar.{comma_due, size, Falls}
 use Rattle.token.specs.Falls.{comma_falls}
 use Rattle.text.specs.Records.{items, list_due}
 

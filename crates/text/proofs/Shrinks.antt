@@ -1,7 +1,6 @@
 -- Each record that is read leaves fewer tokens ahead.
-use Rattle.std.proofs.Common.{◌≡◌, ℕ, zero, suc, ◌<◌, ◌≤◌, Bool, true, false, cond, eqb, List, [], ◌∷◌, ◌++◌, codes, refl, ap, ◌∙◌, arith}
-use Rattle.token.specs.Lex.{front}
-use Rattle.token.specs.Tokens.{Tok, name, number, sign, Ahead, token, end, none, Out, gives, denies}
+use Rattle.std.proofs.Common.{◌≡◌, ℕ, zero, suc, ◌≤◌, Bool, true, false, cond, List, [], ◌∷◌, ◌++◌, codes, ap, arith}
+use Rattle.token.specs.Tokens.{Ahead, token, end, none, Out, gives}
 use Rattle.token.specs.Grammar.{then, mark_due, number_due, comma_due, member_due, mark_next, past_one, past_mark, size, Falls}
 use Rattle.token.specs.Falls.{Stays, rest, number_falls, mark_falls, comma_falls, member_falls, then_falls, then_stays, gives_stays, falls_stays}
 use Rattle.text.specs.declared.asks.Ask.{Ask}

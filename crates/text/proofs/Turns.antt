@@ -1,12 +1,12 @@
 -- The turns of the loop over the calls of an object.
-use Rattle.std.proofs.Common.{◌≡◌, ℕ, ◌+◌, ◌<◌, ◌≤◌, List, [], ◌∷◌, length, get_or, drop, sym, refl, ap, ◌∙◌}
+use Rattle.std.proofs.Common.{◌≡◌, ℕ, ◌+◌, ◌<◌, ◌≤◌, List, length, get_or, drop, ◌∙◌}
 use Rattle.std.proofs.lemmas.List.{at_drop_more, at_drop_all}
 use Rattle.fault.specs.declared.Place.{Place}
 use Rattle.fault.specs.declared.Place.TheVariants.{Row}
 use Rattle.fault.specs.declared.Layer.{Layer}
 use Rattle.fault.specs.Faults.Outcome.{accepted, refused}
 use Rattle.case.specs.Views.{View}
-use Rattle.text.specs.Calls.{Said, asked, after, said_from, case_from}
+use Rattle.text.specs.Calls.{asked, after, said_from, case_from}
 use Rattle.text.specs.Calls.Said.{word, denied}
 use Rattle.text.specs.declared.asks.Ask.{Ask}
 

@@ -1,8 +1,8 @@
 -- The objects of a text, read as the calls that they ask for.
-use Rattle.std.specs.Prelude.{ℕ, zero, suc, Bool, true, false, cond, List, [], ◌∷◌, ◌++◌, codes}
+use Rattle.std.specs.Prelude.{ℕ, zero, suc, cond, List, [], ◌∷◌, ◌++◌, codes}
 use Rattle.automaton.specs.declared.model.Opening.{Opening}
 use Rattle.automaton.specs.declared.rule.RuleNumbers.{RuleNumbers}
-use Rattle.token.specs.Tokens.{Ahead, Out, gives, denies, other_due}
+use Rattle.token.specs.Tokens.{Ahead, Out, gives, other_due}
 use Rattle.token.specs.Grammar.{then, mark_due, number_due, comma_due, member_due, mark_next, past_mark, size}
 use Rattle.text.specs.declared.asks.Ask.{Ask}
 use Rattle.text.specs.declared.asks.Ask.TheVariants.{Open, Add, Begin, Delay, Fire}
