@@ -3,8 +3,8 @@
 
 usage: python3 tools/snake_names.py [--list]      at the top of the repository, once, right after the kit's port.py
 
-A name is declared by a signature, a record, a data type, a field, a constructor or a module's parameter list in an .antt file
-that is no proof of a function (those declare goals, which keep the names that the check asks for). Text in strings and comments
+A name is declared by a signature, a record, a data type, a field or a constructor in an .antt file, or by the `as` of an import. A file
+that is the proof of a function declares goals, which keep the names that the check asks for. Text in strings and comments
 stays. --list only prints what would be renamed and which names would fall together.
 """
 import os
@@ -15,6 +15,7 @@ import sys
 # a name behind `c.` or `goal.` is one that the check makes
 WORD = re.compile(r"(?<!\bc\.)(?<!\bgoal\.)(?<![^\s(){}.;,\"@«»\[\]])[^\s(){}.;,\"@«»\[\]]+")
 SIGNATURE = re.compile(r"^\s*(?:abbrev |unfoldable |pub |data |record )*([^\s(){}.;,\"@«»]+)(?:\s+[({][^:]*)?\s*:\s")
+ALIAS = re.compile(r" as ([^\s(){}.;,\"@«»]+)[,}]")
 HEAD = re.compile(r"^\s*(?:pub )?(?:data|record) ([^\s(){}.;,\"@«»]+)")
 # a name that would fall together with another one, and what it is called in its place
 OTHERWISE = {}
@@ -40,6 +41,10 @@ def bare(text, mark):
 def declared(root):
     found = {}
     for path in files(root):
+        with open(path, encoding="utf-8") as f:
+            for line in f:
+                if re.match(r"(pub )?(ghost )?use ", line):
+                    found.update((m.group(1), path) for m in ALIAS.finditer(line))
         if not path.endswith(".antt"):
             continue
         with open(path, encoding="utf-8") as f:

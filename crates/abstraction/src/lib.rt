@@ -6,7 +6,7 @@ ghost use Rattle.std.specs.Prelude.{◌≡◌, ℕ, ◌≤◌, true, List, [], �
 ghost use Rattle.abstraction.specs.Bounds.{at_least, at_most, inside, Inside, fits as fitting, upper_fits, Fits};
 ghost use Rattle.abstraction.specs.Frames.{Frame};
 ghost use Rattle.abstraction.specs.Owes.{Answers, Meaning, ListsLawfully, Covers};
-ghost use Rattle.abstraction.specs.Room.{added, shapes as shapes-of};
+ghost use Rattle.abstraction.specs.Room.{added, shapes as shapes_of};
 ghost use Rattle.abstraction.specs.Untimed.{untimed, everything};
 ghost use Rattle.abstraction.specs.declared.scope.Scope.{Scope};
 ghost use Rattle.std.proofs.Common.{rules};
@@ -65,21 +65,21 @@ impl Interval {
 
 impl<S: Copy> Listing<S> {
     pub fn new(heap: Global) -> Result<Listing<S>, AllocError>
-        ensures { IfOk result (λ l. shapes-of l ≡ []) }
+        ensures { IfOk result (λ l. shapes_of l ≡ []) }
     {
         let shapes = Vec::with_capacity(heap, ROOM)?;
         Ok(Listing { shapes })
     }
 
     pub fn clear(&mut self)
-        ensures { shapes-of self.new ≡ [] }
+        ensures { shapes_of self.new ≡ [] }
     {
         self.shapes.truncate(0);
     }
 
     // One shape more, where there is room.
     pub fn add(&mut self, s: S)
-        ensures { shapes-of self.new ≡ added (shapes-of self.old) s }
+        ensures { shapes_of self.new ≡ added (shapes_of self.old) s }
     {
         if self.shapes.len() < ROOM {
             self.shapes.push_reserved(s);
@@ -87,7 +87,7 @@ impl<S: Copy> Listing<S> {
     }
 
     pub fn shapes(&self) -> &[S]
-        ensures { result.now ≡ shapes-of self.now }
+        ensures { result.now ≡ shapes_of self.now }
     {
         self.shapes.as_slice()
     }
@@ -111,7 +111,7 @@ pub trait Abstraction {
         ensures { result ≡ (answers self.now).start scope };
 
     fn time(&self, scope: Scope, s: Self::Shape, out: &mut Listing<Self::Shape>)
-        ensures { shapes-of out.new ≡ (answers self.now).time scope s };
+        ensures { shapes_of out.new ≡ (answers self.now).time scope s };
 
     fn test(
         &self,
@@ -121,7 +121,7 @@ pub trait Abstraction {
         s: Self::Shape,
         out: &mut Listing<Self::Shape>,
     )
-        ensures { shapes-of out.new ≡ (answers self.now).test scope clock i s };
+        ensures { shapes_of out.new ≡ (answers self.now).test scope clock i s };
 
     fn assign(
         &self,
@@ -131,10 +131,10 @@ pub trait Abstraction {
         s: Self::Shape,
         out: &mut Listing<Self::Shape>,
     )
-        ensures { shapes-of out.new ≡ (answers self.now).assign scope clock i s };
+        ensures { shapes_of out.new ≡ (answers self.now).assign scope clock i s };
 
     fn push(&self, scope: Scope, i: Interval, s: Self::Shape, out: &mut Listing<Self::Shape>)
-        ensures { shapes-of out.new ≡ (answers self.now).push scope i s };
+        ensures { shapes_of out.new ≡ (answers self.now).push scope i s };
 
     fn pop(
         &self,
@@ -144,7 +144,7 @@ pub trait Abstraction {
         u: Self::Shape,
         out: &mut Listing<Self::Shape>,
     )
-        ensures { shapes-of out.new ≡ (answers self.now).pop scope i s u };
+        ensures { shapes_of out.new ≡ (answers self.now).pop scope i s u };
 
     fn within(&self, scope: Scope, s: Self::Shape, t: Self::Shape) -> bool
         ensures { result ≡ (answers self.now).within scope s t };
@@ -169,7 +169,7 @@ impl Untimed {
 }
 
 fn list_anything(s: Anything, out: &mut Listing<Anything>)
-    ensures { shapes-of out.new ≡ s ∷ [] }
+    ensures { shapes_of out.new ≡ s ∷ [] }
 {
     out.clear();
     out.add(s);

@@ -4,14 +4,14 @@ ghost use Rattle.std.specs.Prelude.{◌≡◌, ◌≤◌, true, length, IfSome};
 ghost use Rattle.std.specs.List.{slice_get};
 ghost use Rattle.automaton.specs.Lawful.{lawful, all_lawful};
 ghost use Rattle.automaton.specs.Models.{automaton};
-ghost use Rattle.automaton.specs.Edits.{sizes as sizes-of};
+ghost use Rattle.automaton.specs.Edits.{sizes as sizes_of};
 
 use super::model::Model;
 use super::rule::{Rule, Sizes};
 
 impl Model {
     pub fn sizes(&self) -> Sizes
-        ensures value { result ≡ sizes-of (automaton self.now) }
+        ensures value { result ≡ sizes_of (automaton self.now) }
         ensures timed { result.clocks ≤ 3 }
     {
         self.sizes
@@ -31,7 +31,7 @@ impl Model {
 
     pub fn rules(&self) -> &[Rule]
         ensures value { result.now ≡ (automaton self.now).rules }
-        ensures law { all_lawful (sizes-of (automaton self.now)) result.now ≡ true }
+        ensures law { all_lawful (sizes_of (automaton self.now)) result.now ≡ true }
         ensures few { length result.now ≤ 64 }
     {
         self.rules.items.as_slice()
@@ -40,7 +40,7 @@ impl Model {
     // The rule at a place, if there is one. Every rule that is held is lawful.
     pub fn rule(&self, place: u64) -> Option<Rule>
         ensures value { result ≡ slice_get (automaton self.now).rules place }
-        ensures law { IfSome result (λ x. lawful (sizes-of (automaton self.now)) x ≡ true) }
+        ensures law { IfSome result (λ x. lawful (sizes_of (automaton self.now)) x ≡ true) }
     {
         if place < self.rules.items.len() as u64 {
             Some(self.rules.items[place as usize])

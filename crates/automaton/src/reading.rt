@@ -3,7 +3,7 @@
 ghost use Rattle.std.specs.Prelude.{◌≡◌, ◌≤◌, true};
 ghost use Rattle.fault.specs.Faults.{outcome};
 ghost use Rattle.automaton.specs.declared.rule.Rule.{Rule};
-ghost use Rattle.automaton.specs.Rules.{states_fit, argument_fits, bounds_fit, action as acting, interval as interval-of, upper as upper_of, read_rule};
+ghost use Rattle.automaton.specs.Rules.{states_fit, argument_fits, bounds_fit, action as acting, interval as interval_of, upper as upper_of, read_rule};
 ghost use Rattle.automaton.specs.Lawful.{Reads};
 
 use super::rule::{Action, Rule, RuleNumbers, Sizes};

@@ -2,7 +2,7 @@
 
 ghost use Rattle.std.specs.Prelude.{◌≡◌, false, [], length, is_ok};
 ghost use Rattle.fault.specs.Faults.{outcome};
-ghost use Rattle.abstraction.specs.Room.{shapes as shapes-of};
+ghost use Rattle.abstraction.specs.Room.{shapes as shapes_of};
 ghost use Rattle.automaton.specs.Models.{automaton};
 ghost use Rattle.judge.specs.Claims.{claim};
 ghost use Rattle.judge.specs.Judged.{judged};
@@ -32,7 +32,7 @@ impl Case {
         ensures sound { Sound (claim (A.Abstraction.answers abstraction.now) (automaton self.old.model) top table.now) (A.Abstraction.meaning abstraction.now) (outcome result) }
         ensures kept { is_ok result ≡ false → self.new ≡ self.old }
         ensures room { length scratch.new ≡ length scratch.old }
-        ensures emptied { shapes-of listing.new ≡ [] }
+        ensures emptied { shapes_of listing.new ≡ [] }
     {
         let verdict = judge::judge(&self.model, abstraction, table, top, scratch, listing);
         if verdict.is_ok() {

@@ -3,7 +3,7 @@
 ghost use Rattle.std.specs.Prelude.{◌≡◌, ℕ, List, [], ◌++◌, length};
 ghost use Rattle.fault.specs.Faults.{outcome};
 ghost use Rattle.case.specs.Views.{View, view};
-ghost use Rattle.case.specs.History.{heard, finish, state as stated, event, Noted, noted, notes_of, calls as calls-of, events, Carries, AllCarry, Makes, Played, OverCalls};
+ghost use Rattle.case.specs.History.{heard, finish, state as stated, event, Noted, noted, notes_of, calls as calls_of, events, Carries, AllCarry, Makes, Played, OverCalls};
 
 use super::case::{Case, Standing};
 use abstraction::{Abstraction, Listing};
@@ -94,8 +94,8 @@ fn play<A: Abstraction>(
     scratch: &mut [u8],
     listing: &mut Listing<A::Shape>,
 )
-    ensures played { Played (AllCarry A.Abstraction.answers A.Abstraction.meaning (calls-of turns.old)) (view case.old) (notes_of A.Abstraction.answers (length scratch.old) turns.new) (view case.new) }
-    ensures same { calls-of turns.new ≡ calls-of turns.old }
+    ensures played { Played (AllCarry A.Abstraction.answers A.Abstraction.meaning (calls_of turns.old)) (view case.old) (notes_of A.Abstraction.answers (length scratch.old) turns.new) (view case.new) }
+    ensures same { calls_of turns.new ≡ calls_of turns.old }
     ensures room { length scratch.new ≡ length scratch.old }
 {
     for t in turns.iter_mut() {
@@ -141,7 +141,7 @@ pub struct Then<'a, A: Abstraction, R: Calls> {
 }
 
 impl<'a, A: Abstraction, R: Calls> Calls for Then<'a, A, R> {
-    ghost covering = { λ s. AllCarry A.Abstraction.answers A.Abstraction.meaning (calls-of s.turns.now) × R.Calls.covering s.rest };
+    ghost covering = { λ s. AllCarry A.Abstraction.answers A.Abstraction.meaning (calls_of s.turns.now) × R.Calls.covering s.rest };
 
     ghost notes = { λ s. notes_of A.Abstraction.answers (length s.scratch.now) s.turns.now ++ R.Calls.notes s.rest };
 

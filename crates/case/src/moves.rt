@@ -11,7 +11,7 @@ ghost use Rattle.automaton.specs.declared.rule.Action.TheVariants.{Assign, Push,
 ghost use Rattle.case.specs.Asking.{Asks, step_outcome, step_after};
 ghost use Rattle.case.specs.Calls.{edited, delay_run, delayed, fire_run, fired_run};
 ghost use Rattle.case.specs.Views.Running.{at as stands_at};
-ghost use Rattle.case.specs.Steps.{clock_fits, delay_fits, delay_check, waited, value_fits as value-fitting, measured as measuring, time_fits, fire_check, fired, push_fits, Passive};
+ghost use Rattle.case.specs.Steps.{clock_fits, delay_fits, delay_check, waited, value_fits as value_fitting, measured as measuring, time_fits, fire_check, fired, push_fits, Passive};
 
 use super::case::{Case, Standing};
 use super::run::{Progress, Run};
@@ -22,7 +22,7 @@ use fault::{Fault, Refusal};
 
 // Only assignments and pushes use the value.
 fn value_fits(action: Action, value: u64) -> bool
-    ensures { result ≡ value-fitting action value }
+    ensures { result ≡ value_fitting action value }
 {
     match action {
         Action::Assign(_) | Action::Push(_) => value <= LIMIT,

@@ -6,7 +6,7 @@
 
 ghost use Rattle.std.specs.Prelude.{◌≡◌, [], ◌∷◌};
 ghost use Rattle.abstraction.specs.Owes.{Covers};
-ghost use Rattle.abstraction.specs.Room.{shapes as shapes-of};
+ghost use Rattle.abstraction.specs.Room.{shapes as shapes_of};
 ghost use Rattle.floors.specs.Floors.{floors, at_least_so_old, allows as allowing, popped_list};
 ghost use Rattle.floors.specs.Covering;
 
@@ -30,7 +30,7 @@ impl Floors {
 }
 
 fn list(s: Floor, out: &mut Listing<Floor>)
-    ensures { shapes-of out.new ≡ s ∷ [] }
+    ensures { shapes_of out.new ≡ s ∷ [] }
 {
     out.clear();
     out.add(s);
@@ -48,7 +48,7 @@ fn allows(upper: Upper, age: u64) -> bool
 }
 
 fn list_popped(i: Interval, s: Floor, u: Floor, out: &mut Listing<Floor>)
-    ensures { shapes-of out.new ≡ popped_list i s u }
+    ensures { shapes_of out.new ≡ popped_list i s u }
 {
     out.clear();
     if allows(i.upper, u.age) {

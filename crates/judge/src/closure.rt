@@ -1,7 +1,7 @@
 // Whether a table is closed, and the first place at which it is not.
 
 ghost use Rattle.std.specs.Prelude.{◌≡◌, ◌<◌, ◌≤◌, length};
-ghost use Rattle.judge.specs.Judged.{time_closed, action_closed, rule_closed, rules_fault, any_within, pushes as pushing, opens_by, opens as opening, pop_closed, return_closed, pops_fault, return_fault, returns_fault, entry_fault, closure_fault, at_entry as entry_IsPlace, at_rule as rule-place, at_return as return-place};
+ghost use Rattle.judge.specs.Judged.{time_closed, action_closed, rule_closed, rules_fault, any_within, pushes as pushing, opens_by, opens as opening, pop_closed, return_closed, pops_fault, return_fault, returns_fault, entry_fault, closure_fault, at_entry as entry_IsPlace, at_rule as rule_place, at_return as return_place};
 ghost use Rattle.judge.specs.Judgings.{claim_of};
 ghost use Rattle.judge.specs.Marks.{Marked, Rooted};
 
@@ -26,7 +26,7 @@ pub(crate) fn at_entry(k: usize) -> Place
 
 // The place of a rule at an entry.
 fn at_rule(k: usize, n: usize) -> Place
-    ensures { result ≡ rule-place k n }
+    ensures { result ≡ rule_place k n }
 {
     Place::Table {
         entry: k as u64,
@@ -37,7 +37,7 @@ fn at_rule(k: usize, n: usize) -> Place
 
 // The place of a pop rule at an entry and one above it.
 fn at_return(k: usize, j: usize, n: usize) -> Place
-    ensures { result ≡ return-place k j n }
+    ensures { result ≡ return_place k j n }
 {
     Place::Table {
         entry: k as u64,

@@ -1,7 +1,7 @@
 // A claim that a table keeps the target from all runs of a model, and how it is judged.
 
 ghost use Rattle.std.specs.Prelude.{◌≡◌};
-ghost use Rattle.judge.specs.Judged.{takes as taking, taken as being-taken, all_taken};
+ghost use Rattle.judge.specs.Judged.{takes as taking, taken as being_taken, all_taken};
 ghost use Rattle.judge.specs.Judgings.{claim_of};
 
 use super::entry::Entry;
@@ -31,7 +31,7 @@ impl<'m, 'a, 't, A: Abstraction> Judging<'m, 'a, 't, A> {
 
     // Whether some wanted entry takes the shape.
     pub(crate) fn taken(&self, w: Want, s: A::Shape) -> bool
-        ensures { result ≡ being-taken (claim_of A.Abstraction.answers self.now) w s }
+        ensures { result ≡ being_taken (claim_of A.Abstraction.answers self.now) w s }
     {
         for (k, e) in self.table.iter().enumerate() {
             if self.takes(w, s, k, e) {

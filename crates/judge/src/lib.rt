@@ -4,8 +4,8 @@
 
 ghost use Rattle.std.specs.Prelude.{◌≡◌, [], length};
 ghost use Rattle.fault.specs.Faults.{outcome};
-ghost use Rattle.abstraction.specs.Room.{shapes as shapes-of};
-ghost use Rattle.automaton.specs.Models.{automaton as automaton-of};
+ghost use Rattle.abstraction.specs.Room.{shapes as shapes_of};
+ghost use Rattle.automaton.specs.Models.{automaton as automaton_of};
 ghost use Rattle.judge.specs.Claims.{claim};
 ghost use Rattle.judge.specs.Judged.{judged};
 ghost use Rattle.judge.specs.Law.{Law, Sound};
@@ -36,11 +36,11 @@ pub fn judge<A: Abstraction>(
     scratch: &mut [u8],
     listing: &mut Listing<A::Shape>,
 ) -> Result<(), Fault>
-    ensures answer { outcome result ≡ judged (claim (A.Abstraction.answers abstraction.now) (automaton-of model.now) top table.now) (length scratch.old) }
-    ensures law { Law (claim (A.Abstraction.answers abstraction.now) (automaton-of model.now) top table.now) (length scratch.old) (outcome result) }
-    ensures sound { Sound (claim (A.Abstraction.answers abstraction.now) (automaton-of model.now) top table.now) (A.Abstraction.meaning abstraction.now) (outcome result) }
+    ensures answer { outcome result ≡ judged (claim (A.Abstraction.answers abstraction.now) (automaton_of model.now) top table.now) (length scratch.old) }
+    ensures law { Law (claim (A.Abstraction.answers abstraction.now) (automaton_of model.now) top table.now) (length scratch.old) (outcome result) }
+    ensures sound { Sound (claim (A.Abstraction.answers abstraction.now) (automaton_of model.now) top table.now) (A.Abstraction.meaning abstraction.now) (outcome result) }
     ensures room { length scratch.new ≡ length scratch.old }
-    ensures emptied { shapes-of listing.new ≡ [] }
+    ensures emptied { shapes_of listing.new ≡ [] }
 {
     let sizes = model.sizes();
     let judging = Judging {

@@ -4,10 +4,10 @@
 
 ghost use Rattle.std.specs.Prelude.{◌≡◌, ◌+◌, ◌*◌, ◌<◌, ◌≤◌, min, true, false, ◌&&◌, map, length, slice_index, slice_index_or, slice_set};
 ghost use Rattle.abstraction.specs.Lists.{all};
-ghost use Rattle.abstraction.specs.Room.{shapes as shapes-of};
+ghost use Rattle.abstraction.specs.Room.{shapes as shapes_of};
 ghost use Rattle.ranking.specs.Items.{none, each, places};
 ghost use Rattle.merging.specs.Ways.{alone, together, from_left, from_right, on_left, on_right, mergings};
-ghost use Rattle.merging.specs.Pop.{clocks_of, mark_item, tie as tie-at, ties_of, like as likeness, in_order, agrees, part as part_of, frame_of, join_all, finished, rekeyed, with_keys, merged, here, rounds as rounds-of, tried, pops as popping};
+ghost use Rattle.merging.specs.Pop.{clocks_of, mark_item, tie as tie_at, ties_of, like as likeness, in_order, agrees, part as part_of, frame_of, join_all, finished, rekeyed, with_keys, merged, here, rounds as rounds_of, tried, pops as popping};
 ghost use Rattle.merging.specs.Law.{PopLaw};
 
 use abstraction::{Listing, Scope};
@@ -154,7 +154,7 @@ fn finish(draft: Draft) -> Region
 // Lists each merging of the two orders of ranks that are left.
 fn merge(ties: &[Tie], left: &[u8], right: &[u8], key: u8, draft: Draft, out: &mut Listing<Region>)
     requires { key + length left.now + length right.now < 255 }
-    ensures { shapes-of out.new ≡ join_all (shapes-of out.old) (map (finished draft.scope draft.frame) (mergings ties.now left.now right.now key draft.keys)) }
+    ensures { shapes_of out.new ≡ join_all (shapes_of out.old) (map (finished draft.scope draft.frame) (mergings ties.now left.now right.now key draft.keys)) }
 {
     match (left.split_first(), right.split_first()) {
         (None, None) => join(out, finish(draft)),
@@ -194,7 +194,7 @@ fn at(items: &[Item], i: usize) -> Item
 }
 
 fn tie_item(below: &[Item], above: &[Item], i: usize) -> Tie
-    ensures { result ≡ tie-at below.now above.now i }
+    ensures { result ≡ tie_at below.now above.now i }
 {
     Tie {
         left: at(below, i),
@@ -314,7 +314,7 @@ fn at_most_ten(rank: u8) -> usize
 
 // Lists every merging of the frames, which agree.
 fn merge_all(scope: Scope, ties: &[Tie], below: &[Item], above: &[Item], out: &mut Listing<Region>)
-    ensures { shapes-of out.new ≡ join_all (shapes-of out.old) (merged scope ties.now below.now above.now) }
+    ensures { shapes_of out.new ≡ join_all (shapes_of out.old) (merged scope ties.now below.now above.now) }
 {
     let ranks = [1, 2, 3, 4, 5, 6, 7, 8, 9, 10];
     let left = at_most_ten(top_rank(below));
@@ -331,7 +331,7 @@ fn merge_all(scope: Scope, ties: &[Tie], below: &[Item], above: &[Item], out: &m
 // Lists the mergings of the frames, if they agree.
 fn list_here(scope: Scope, below: &[Item], above: &[Item], out: &mut Listing<Region>)
     requires { (length below.now ≡ places scope + 1) × (length above.now ≡ places scope) }
-    ensures { shapes-of out.new ≡ join_all (shapes-of out.old) (here scope below.now above.now) }
+    ensures { shapes_of out.new ≡ join_all (shapes_of out.old) (here scope below.now above.now) }
 {
     let clocks = clocks_of(scope);
     let ties = tie_all(&below[0..clocks + 2], &above[clocks + 1..2 * clocks + 3]);
@@ -349,7 +349,7 @@ fn try_rotations(
     out: &mut Listing<Region>,
 )
     requires { (length below.old ≡ places scope + 1) × (length above.now ≡ places scope) }
-    ensures { shapes-of out.new ≡ tried rounds scope below.old above.now (shapes-of out.old) }
+    ensures { shapes_of out.new ≡ tried rounds scope below.old above.now (shapes_of out.old) }
 {
     for _ in 0..rounds {
         list_here(scope, below, above, out);
@@ -359,15 +359,15 @@ fn try_rotations(
 
 // After so many rotations no new ones come.
 fn rounds(scope: Scope, below: &[Item]) -> usize
-    ensures { result ≡ rounds-of scope below.now }
+    ensures { result ≡ rounds_of scope below.now }
 {
     2 * (top_rank(below) as usize + 1) * (ceiling(scope, 0) as usize + 2)
 }
 
 // Lists each region that the frame below, `s`, can come to when the frame above, `u`, is popped.
 pub fn pops(scope: Scope, s: Region, u: Region, out: &mut Listing<Region>)
-    ensures value { shapes-of out.new ≡ popping scope s u }
-    ensures law { PopLaw scope s u (shapes-of out.new) }
+    ensures value { shapes_of out.new ≡ popping scope s u }
+    ensures law { PopLaw scope s u (shapes_of out.new) }
 {
     out.clear();
     let used = items_in_use(scope);

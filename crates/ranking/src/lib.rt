@@ -4,10 +4,10 @@
 // their ranks, and lists that hold each region once.
 
 ghost use Rattle.std.specs.Prelude.{◌≡◌, ℕ, ◌+◌, ◌<◌, ◌≤◌, Bool, true, List, ◌++◌, map, length, Decides, nat_eq};
-ghost use Rattle.abstraction.specs.Room.{shapes as shapes-of};
-ghost use Rattle.ranking.specs.Items.{places, ceiling as ceiling-of, each};
-ghost use Rattle.ranking.specs.Close.{has_rank, lesser, over, next_rank, steps, shut_item, shut, closed as closed-up};
-ghost use Rattle.ranking.specs.Rotation.{has_zero, greatest, raised, fallen, rotated, turned as turned-once};
+ghost use Rattle.abstraction.specs.Room.{shapes as shapes_of};
+ghost use Rattle.ranking.specs.Items.{places, ceiling as ceiling_of, each};
+ghost use Rattle.ranking.specs.Close.{has_rank, lesser, over, next_rank, steps, shut_item, shut, closed as closed_up};
+ghost use Rattle.ranking.specs.Rotation.{has_zero, greatest, raised, fallen, rotated, turned as turned_once};
 ghost use Rattle.ranking.specs.Joined.{lists, join as joined};
 ghost use Rattle.ranking.specs.Equal.{item_eq, item_eq_laws, region_eq, region_eq_laws};
 
@@ -68,7 +68,7 @@ pub fn items_in_use(scope: Scope) -> usize
 
 // The greatest whole part that is told apart at a place.
 pub fn ceiling(scope: Scope, place: usize) -> u8
-    ensures value { result ≡ ceiling-of scope place }
+    ensures value { result ≡ ceiling_of scope place }
     ensures small { result ≤ 15 }
 {
     if scope.top < 15 { scope.top as u8 } else { 15 }
@@ -119,7 +119,7 @@ fn raise_each(items: &mut [Item])
 
 // An item of the greatest rank comes to its next whole part.
 fn lower(scope: Scope, most: u8, place: usize, item: Item) -> Item
-    ensures { result ≡ fallen (ceiling-of scope) most place item }
+    ensures { result ≡ fallen (ceiling_of scope) most place item }
 {
     if item.rank == most {
         let top = ceiling(scope, place);
@@ -135,7 +135,7 @@ fn lower(scope: Scope, most: u8, place: usize, item: Item) -> Item
 }
 
 fn lower_each(items: &mut [Item], scope: Scope, most: u8)
-    ensures { items.new ≡ each (fallen (ceiling-of scope) most) 0 items.old }
+    ensures { items.new ≡ each (fallen (ceiling_of scope) most) 0 items.old }
 {
     for i in 0..items.len() {
         items[i] = lower(scope, most, i, items[i]);
@@ -144,7 +144,7 @@ fn lower_each(items: &mut [Item], scope: Scope, most: u8)
 
 // If a rank is 0 every rank rises, else the items of greatest rank become whole.
 pub fn rotate(items: &mut [Item], scope: Scope)
-    ensures { items.new ≡ rotated (ceiling-of scope) items.old }
+    ensures { items.new ≡ rotated (ceiling_of scope) items.old }
 {
     if some_whole(items) {
         raise_each(items);
@@ -156,7 +156,7 @@ pub fn rotate(items: &mut [Item], scope: Scope)
 
 // The region with its items in use rotated.
 pub fn turned(scope: Scope, region: Region) -> Region
-    ensures { result ≡ turned-once (places scope) (ceiling-of scope) region }
+    ensures { result ≡ turned_once (places scope) (ceiling_of scope) region }
 {
     let used = items_in_use(scope);
     let mut next = region;
@@ -223,7 +223,7 @@ fn close_each(items: &mut [Item], all: &[Item])
 
 // The region with the ranks of its items in use closed up: same zeros, same order, no gap.
 pub fn closed(scope: Scope, region: Region) -> Region
-    ensures { result ≡ closed-up (places scope) region }
+    ensures { result ≡ closed_up (places scope) region }
 {
     let used = items_in_use(scope);
     let mut next = region;
@@ -232,14 +232,14 @@ pub fn closed(scope: Scope, region: Region) -> Region
 }
 
 fn listed(out: &Listing<Region>, region: Region) -> bool
-    ensures { result ≡ lists (shapes-of out.now) region }
+    ensures { result ≡ lists (shapes_of out.now) region }
 {
     out.shapes().contains(&region)
 }
 
 // Lists a region unless it is listed.
 pub fn join(out: &mut Listing<Region>, region: Region)
-    ensures { shapes-of out.new ≡ joined (shapes-of out.old) region }
+    ensures { shapes_of out.new ≡ joined (shapes_of out.old) region }
 {
     if !listed(out, region) {
         out.add(region);

@@ -14,7 +14,7 @@ use Rattle.ranking.specs.Insert.{Agrees}
 use Rattle.ranking.specs.Rotation.{turned_by}
 use Rattle.ranking.specs.Joined.{Once}
 use Rattle.merging.specs.Law.{Pops}
-use Rattle.region.specs.Asked.{lies_in, lawful as lawful-test}
+use Rattle.region.specs.Asked.{lies_in, lawful as lawful_test}
 use Rattle.region.specs.Listed.{time, test, assign, opened, push, pop}
 
 -- the list has what P says and nothing else, each once, and keeps to its room
@@ -67,7 +67,7 @@ ItemOf top D v x = (x.whole ≡ min (v / D) (top + 1)) × ((x.rank ≡ 0 → v %
 
 -- what each list holds, for lawful regions, clocks that are there and bounds up to top
 pub record ListsHold (w : Scope) : Type 0 where
-  pub lawfuls : (r : Region) → (lawful-test w r ≡ true → Lawful (places w) (ceiling w) r) × (Lawful (places w) (ceiling w) r → lawful-test w r ≡ true)
+  pub lawfuls : (r : Region) → (lawful_test w r ≡ true → Lawful (places w) (ceiling w) r) × (Lawful (places w) (ceiling w) r → lawful_test w r ≡ true)
   pub intervals : (i : Interval) → Fits w.top i → (x : Item) (D v : ℕ) → 1 ≤ D → ItemOf w.top D v x → (lies_in i x ≡ true → Inside D i v) × (Inside D i v → lies_in i x ≡ true)
   pub times : (r : Region) → Lawful (places w) (ceiling w) r → Exactly (Rotates w r) (time w r)
   pub tests : (r : Region) → Lawful (places w) (ceiling w) r → (k : ℕ) (i : Interval) → k < w.clocks → Fits w.top i → Exactly (λ t. (t ≡ r) × (lies_in i (slice_index_or r.items k none) ≡ true)) (test w k i r)

@@ -18,7 +18,7 @@ use Rattle.ranking.proofs.Steps.{unique, rekeyed}
 use Rattle.ranking.proofs.Close.{shut_ranks, shut_whole, length_shut}
 use Rattle.ranking.proofs.Lists.{time_covers}
 use Rattle.ranking.proofs.Joined.{same_item}
-use Rattle.merging.specs.Law.{Joint, place_of, projected, Joins, with_mark, region_of as join-region}
+use Rattle.merging.specs.Law.{Joint, place_of, projected, Joins, with_mark, region_of as join_region}
 use Rattle.region.specs.Laws.{values, items_of}
 use Rattle.region.specs.ValuesLemmas.{length_values}
 use Rattle.region.specs.Cover.{made_holds, wide}
@@ -201,7 +201,7 @@ module _ (n : ℕ) (f g : Frame) (ff : Framed n f) (fg : Framed n g) (kept : g.k
       let out : Holds m c D (shut ys) (values (popped f g)) = chosen M m c D cs ys both (values (popped f g)) (place_of n) flat hc long-ys (length_values n (popped f g) framed_popped ∙ sym is)
       (λ i lt. let b = both_popped i (omega arith) in
       (b.0, getD_each (λ i _. get_or cs (place_of n i) none) 0 (replicate (2 * n + 3) none) i none (omega (arith, length-replicate (2 * n + 3) none)) ∙ ap (λ q. get_or cs (place_of n q) none) (zero-add i), b.1)) in
-      let r = join-region (2 * n + 3) (shut ys) in
+      let r = join_region (2 * n + 3) (shut ys) in
       let tail = replicate (9 - (2 * n + 3)) none in
       let ss : length (shut ys) ≡ m = length_shut ys ∙ long-ys in
       let fr : front m r ≡ shut ys = take_at (shut ys) tail m ss in (

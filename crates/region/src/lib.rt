@@ -5,12 +5,12 @@
 
 ghost use Rattle.std.specs.Prelude.{◌≡◌, ℕ, ◌+◌, ◌<◌, ◌≤◌, Bool, true, ◌&&◌, List, [], ◌∷◌, ◌++◌, map, length, take, drop, slice_index_or, slice_set};
 ghost use Rattle.abstraction.specs.Owes.{Covers};
-ghost use Rattle.abstraction.specs.Room.{shapes as shapes-of};
-ghost use Rattle.ranking.specs.Items.{none, places, with_items, ceiling as ceiling-of};
-ghost use Rattle.ranking.specs.Close.{closed as closed-up};
+ghost use Rattle.abstraction.specs.Room.{shapes as shapes_of};
+ghost use Rattle.ranking.specs.Items.{none, places, with_items, ceiling as ceiling_of};
+ghost use Rattle.ranking.specs.Close.{closed as closed_up};
 ghost use Rattle.ranking.specs.Joined.{same_region};
-ghost use Rattle.region.specs.Asked.{small as small_of, wholes_fit, all_empty, in_order, lawful as lawful-of, above as above_of, below as below_of, lies_in, asks as asking, clocks_of, pop_asks};
-ghost use Rattle.region.specs.Listed.{start as start_of, rounds as rounds-of, rotations as rotations-of, time as time-of, test as test_of, spread as spread-of, placed as Placed-of, placing, doubled, keys as keys_of, fill_keys, fill as fill-of, assign as assign-of, source as source_of, opened as opened_of, push as push-of, pop as pop-of};
+ghost use Rattle.region.specs.Asked.{small as small_of, wholes_fit, all_empty, in_order, lawful as lawful_of, above as above_of, below as below_of, lies_in, asks as asking, clocks_of, pop_asks};
+ghost use Rattle.region.specs.Listed.{start as start_of, rounds as rounds_of, rotations as rotations_of, time as time_of, test as test_of, spread as spread_of, placed as PlacedOf, placing, doubled, keys as keys_of, fill_keys, fill as fill_of, assign as assign_of, source as source_of, opened as opened_of, push as push_of, pop as pop_of};
 ghost use Rattle.region.specs.Laws.{FramesOnce, ListsExactly, ListsNothing};
 ghost use Rattle.region.specs.Regions.{regions, covering};
 ghost use Rattle.region.specs.Owing.{lists_lawfully};
@@ -29,7 +29,7 @@ fn small(scope: Scope) -> bool
 
 // Whether each whole part is at most one above its ceiling.
 fn wholes_fit(scope: Scope, items: &[Item]) -> bool
-    ensures { result ≡ wholes_fit (ceiling-of scope) 0 items.now }
+    ensures { result ≡ wholes_fit (ceiling_of scope) 0 items.now }
 {
     for i in 0..items.len() {
         if items[i].whole > ceiling(scope, i) + 1 {
@@ -51,14 +51,14 @@ fn all_empty(items: &[Item]) -> bool
 }
 
 fn front_fits(scope: Scope, region: Region) -> bool
-    ensures { result ≡ wholes_fit (ceiling-of scope) 0 (take (places scope) region.items) }
+    ensures { result ≡ wholes_fit (ceiling_of scope) 0 (take (places scope) region.items) }
 {
     wholes_fit(scope, &region.items[0..items_in_use(scope)])
 }
 
 // Whether ranks have no gap: closing up changes nothing.
 fn gapless(scope: Scope, region: Region) -> bool
-    ensures { result ≡ same_region (closed-up (places scope) region) region }
+    ensures { result ≡ same_region (closed_up (places scope) region) region }
 {
     closed(scope, region) == region
 }
@@ -78,7 +78,7 @@ fn in_order(scope: Scope, region: Region) -> bool
 
 // Whether a region is one, for a scope within the limits.
 fn lawful(scope: Scope, region: Region) -> bool
-    ensures { result ≡ lawful-of scope region }
+    ensures { result ≡ lawful_of scope region }
 {
     small(scope) && in_order(scope, region)
 }
@@ -92,7 +92,7 @@ fn start(scope: Scope) -> Region
 
 // So many rotations come to each region that any come to.
 fn rounds(scope: Scope, region: Region) -> usize
-    ensures { result ≡ rounds-of scope region }
+    ensures { result ≡ rounds_of scope region }
 {
     let used = items_in_use(scope);
     let most = top_rank(&region.items[0..used]);
@@ -101,7 +101,7 @@ fn rounds(scope: Scope, region: Region) -> usize
 }
 
 fn list_rotations(scope: Scope, region: Region, out: &mut Listing<Region>)
-    ensures { shapes-of out.new ≡ rotations-of scope region (shapes-of out.old) }
+    ensures { shapes_of out.new ≡ rotations_of scope region (shapes_of out.old) }
 {
     let turns = rounds(scope, region);
     let mut next = region;
@@ -113,7 +113,7 @@ fn list_rotations(scope: Scope, region: Region, out: &mut Listing<Region>)
 
 // Each region after zero or more rotations.
 fn list_time(scope: Scope, region: Region, out: &mut Listing<Region>)
-    ensures { shapes-of out.new ≡ time-of scope region }
+    ensures { shapes_of out.new ≡ time_of scope region }
 {
     out.clear();
     if lawful(scope, region) {
@@ -170,7 +170,7 @@ fn list_test(
     region: Region,
     out: &mut Listing<Region>,
 )
-    ensures { shapes-of out.new ≡ test_of scope clock interval region }
+    ensures { shapes_of out.new ≡ test_of scope clock interval region }
 {
     out.clear();
     if asks(scope, clock, interval, region) && inside(interval, item_at(region, clock as usize)) {
@@ -198,7 +198,7 @@ fn double_each(items: &mut [Item])
 
 // Twice each rank, so that a new one finds room between two.
 fn spread(region: Region) -> Region
-    ensures { result ≡ spread-of region }
+    ensures { result ≡ spread_of region }
 {
     let mut next = region;
     double_each(&mut next.items);
@@ -217,7 +217,7 @@ fn with_item(region: Region, place: usize, item: Item) -> Region
 
 // The region with an item at a place, closed up.
 fn placed(scope: Scope, region: Region, place: usize, item: Item) -> Region
-    ensures { result ≡ Placed-of scope region place item }
+    ensures { result ≡ PlacedOf scope region place item }
 {
     closed(scope, with_item(region, place, item))
 }
@@ -230,7 +230,7 @@ fn list_placed(
     item: Item,
     out: &mut Listing<Region>,
 )
-    ensures { shapes-of out.new ≡ placing scope place interval region item (shapes-of out.old) }
+    ensures { shapes_of out.new ≡ placing scope place interval region item (shapes_of out.old) }
 {
     if inside(interval, item) {
         join(out, placed(scope, region, place, item));
@@ -255,7 +255,7 @@ fn list_positions(
     whole: u8,
     out: &mut Listing<Region>,
 )
-    ensures { shapes-of out.new ≡ fill_keys scope place interval region keys whole (shapes-of out.old) }
+    ensures { shapes_of out.new ≡ fill_keys scope place interval region keys whole (shapes_of out.old) }
 {
     for key in 0..keys {
         list_placed(
@@ -271,7 +271,7 @@ fn list_positions(
 
 // Fills a place with every whole part and every position in the interval.
 fn fill(scope: Scope, place: usize, interval: Interval, region: Region, out: &mut Listing<Region>)
-    ensures { shapes-of out.new ≡ fill-of scope place interval region (shapes-of out.old) }
+    ensures { shapes_of out.new ≡ fill_of scope place interval region (shapes_of out.old) }
 {
     let apart = spread(region);
     let keys = positions(scope, region);
@@ -288,7 +288,7 @@ fn list_assigned(
     region: Region,
     out: &mut Listing<Region>,
 )
-    ensures { shapes-of out.new ≡ assign-of scope clock interval region }
+    ensures { shapes_of out.new ≡ assign_of scope clock interval region }
 {
     out.clear();
     if asks(scope, clock, interval, region) {
@@ -334,7 +334,7 @@ fn clocks_in_use(scope: Scope) -> usize
 }
 
 fn list_opened(scope: Scope, interval: Interval, region: Region, out: &mut Listing<Region>)
-    ensures { shapes-of out.new ≡ fill-of scope (clocks_of scope) interval (opened_of (clocks_of scope) region) (shapes-of out.old) }
+    ensures { shapes_of out.new ≡ fill_of scope (clocks_of scope) interval (opened_of (clocks_of scope) region) (shapes_of out.old) }
 {
     let clocks = clocks_in_use(scope);
     fill(scope, clocks, interval, opened(clocks, region), out);
@@ -342,7 +342,7 @@ fn list_opened(scope: Scope, interval: Interval, region: Region, out: &mut Listi
 
 // Each region of the frame above with any age of the interval.
 fn list_pushed(scope: Scope, interval: Interval, region: Region, out: &mut Listing<Region>)
-    ensures { shapes-of out.new ≡ push-of scope interval region }
+    ensures { shapes_of out.new ≡ push_of scope interval region }
 {
     out.clear();
     if lawful(scope, region) && interval.fits(scope.top) {
@@ -362,7 +362,7 @@ fn asks_pop(scope: Scope, interval: Interval, s: Region, u: Region) -> bool
 
 // Each region that the frame below can come to when the one above is popped.
 fn list_popped(scope: Scope, interval: Interval, s: Region, u: Region, out: &mut Listing<Region>)
-    ensures { shapes-of out.new ≡ pop-of scope interval s u }
+    ensures { shapes_of out.new ≡ pop_of scope interval s u }
 {
     out.clear();
     if asks_pop(scope, interval, s, u) {
