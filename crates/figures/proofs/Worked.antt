@@ -1,4 +1,4 @@
-use Rattle.std.proofs.Common.{◌≡◌, refl}
+use Rattle.std.proofs.Common.{refl}
 use Rattle.region.specs.declared.Regions.{Regions}
 use Rattle.figures.specs.Figures.{PoppedAtOne, TooYoung, AtMostTwo, ClockBefore, FourRows, Rotations, ThreeMergings, Figures}
 

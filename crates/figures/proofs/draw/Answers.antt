@@ -2,9 +2,9 @@ use Rattle.case.specs.Views.{view}
 use Rattle.figures.proofs.Drawing.{drawn_so, third_not_refused, last_taken}
 use Rattle.figures.proofs.draw.Goals as goal
 
-pub returns-in-err-add-2 : goal.returns-in-err-add-2
-returns-in-err-add-2 c =
-    elim (third_not_refused (view c.args.case.now) _ _ (view c.add-2.new.self) c.open.ensures.after c.add.ensures.after c.add-2.ensures.after _ c.in-err-add-2.ensures.answer) [ ]
+pub returns-in_err-add-2 : goal.returns-in_err-add-2
+returns-in_err-add-2 c =
+    elim (third_not_refused (view c.args.case.now) _ _ (view c.add-2.new.self) c.open.ensures.after c.add.ensures.after c.add-2.ensures.after _ c.in_err-add-2.ensures.answer) [ ]
 
 pub returns : goal.returns
 returns c =
