@@ -80,6 +80,15 @@ def turned(text, table, rust):
     return "\n".join(out)
 
 
+def library_words(text):
+    """A word of the library has no other one's name."""
+    if "AllByRecursion as All" not in text:
+        return text
+    uses = re.compile(r"(?:pub )?(?:ghost )?use |--")
+    lines = text.replace("AllByRecursion as All", "AllByRecursion").split("\n")
+    return "\n".join(line if uses.match(line) else re.sub(r"(?<![\w'.-])All(?![\w'-])", "AllByRecursion", line) for line in lines)
+
+
 def main():
     root = os.getcwd()
     names = declared(root)
@@ -92,7 +101,7 @@ def main():
     for path in files(root):
         with open(path, encoding="utf-8") as f:
             text = f.read()
-        new = turned(text, table, path.endswith(".rt"))
+        new = library_words(turned(text, table, path.endswith(".rt")))
         if new != text:
             with open(path, "w", encoding="utf-8") as f:
                 f.write(new)

@@ -1,5 +1,5 @@
 use Rattle.std.proofs.Common.{◌≡◌, ℕ, zero, suc, ◌+◌, ◌<◌, ◌≤◌, Bool, true, false, ◌&&◌, List, [], ◌∷◌, get_or, set, sym, refl, ap, ◌∙◌, ⊎_elim, arith}
-use Rattle.std.specs.List.{range_with_len, AllByRecursion as All}
+use Rattle.std.specs.List.{range_with_len, AllByRecursion}
 use Rattle.std.proofs.lemmas.Bool.{cases_lt, cases_eq, cases_order, eq-eqb, ne_eqb}
 use Rattle.std.proofs.lemmas.Bool.Decides.{nat_tests}
 use Rattle.merging.specs.declared.Tie.{Tie}
@@ -17,16 +17,16 @@ both_false a b {c} p q r = cc
 -- the fractions f and g of the ranks of the two sides say how to merge
 module _ (f g : ℕ → ℕ) (K L : ℕ) (smallK : K < 11) (smallL : L < 11) (ts : List Tie)
     (up : (p q : ℕ) → p < q → q ≤ K → f p < f q) (up' : (p q : ℕ) → p < q → q ≤ L → g p < g q)
-    (ties : All (λ t. (f t.left.rank ≡ g t.right.rank) × (t.left.rank ≤ K) × (t.right.rank ≤ L)) ts) where
+    (ties : AllByRecursion (λ t. (f t.left.rank ≡ g t.right.rank) × (t.left.rank ≤ K) × (t.right.rank ≤ L)) ts) where
   abbrev pub FitsTie : Tie → Type 0
   FitsTie t = (f t.left.rank ≡ g t.right.rank) × (t.left.rank ≤ K) × (t.right.rank ≤ L)
 
-  free_left : (l : ℕ) (us : List Tie) → All FitsTie us → ((q : ℕ) → q ≤ L → f l ≡ g q → ⊥) → alone from_left l us ≡ true
+  free_left : (l : ℕ) (us : List Tie) → AllByRecursion FitsTie us → ((q : ℕ) → q ≤ L → f l ≡ g q → ⊥) → alone from_left l us ≡ true
   free_left l [] a n = refl
   free_left l (t ∷ us) a n = let r = free_left l us a.1 n in let m = n t.right.rank a.0.2 in let e0 = a.0.0 in
       ⊎_elim (λ (e : t.left.rank ≡ l). absurd (m (sym (ap f e) ∙ e0))) (λ (d : t.left.rank ≡ l → ⊥). grind (arith, nat_tests)) (cases_eq t.left.rank l)
 
-  free_right : (r : ℕ) (us : List Tie) → All FitsTie us → ((q : ℕ) → q ≤ K → g r ≡ f q → ⊥) → alone from_right r us ≡ true
+  free_right : (r : ℕ) (us : List Tie) → AllByRecursion FitsTie us → ((q : ℕ) → q ≤ K → g r ≡ f q → ⊥) → alone from_right r us ≡ true
   free_right r [] a n = refl
   free_right r (t ∷ us) a n = let s = free_right r us a.1 n in let m = n t.left.rank a.0.1 in let e0 = a.0.0 in
       ⊎_elim (λ (e : t.right.rank ≡ r). absurd (m (sym (ap g e) ∙ sym e0))) (λ (d : t.right.rank ≡ r → ⊥). grind (arith, nat_tests)) (cases_eq t.right.rank r)
@@ -37,7 +37,7 @@ module _ (f g : ℕ → ℕ) (K L : ℕ) (smallK : K < 11) (smallL : L < 11) (ts
   one_g : (p q : ℕ) → p ≤ L → q ≤ L → g p ≡ g q → p ≡ q
   one_g p q hp hq e = ⊎_elim (λ h. h) (λ h. ⊎_elim (λ k. absurd (omega (arith, up' p q k hq))) (λ k. absurd (omega (arith, up' q p k hp))) h) (cases_order p q)
 
-  meeting : (l r : ℕ) (us : List Tie) → All FitsTie us → l ≤ K → r ≤ L → f l ≡ g r → together l r us ≡ true
+  meeting : (l r : ℕ) (us : List Tie) → AllByRecursion FitsTie us → l ≤ K → r ≤ L → f l ≡ g r → together l r us ≡ true
   meeting l r [] a hl hr e = refl
   meeting l r (t ∷ us) a hl hr e = let s = meeting l r us a.1 hl hr e in let e0 = a.0.0 in
       ⊎_elim

@@ -1,5 +1,5 @@
 use Rattle.std.proofs.Common.{◌≡◌, ℕ, ◌+◌, ◌-◌, ◌*◌, ◌<◌, ◌≤◌, Bool, true, false, cond, ◌&&◌, List, ◌++◌, map, length, get_or, take, drop, sym, refl, ap, ◌∙◌, subst, ⊎_elim, arith, length-append}
-use Rattle.std.specs.List.{range_with_len, ContainsAt as Has, AllByRecursion as All}
+use Rattle.std.specs.List.{range_with_len, ContainsAt as Has, AllByRecursion}
 use Rattle.std.proofs.lemmas.List.{get_or-take, get_or-drop, get_or_append_left, get_or-append_right, get_or-map, length-map, length-take, length-drop}
 use Rattle.std.proofs.ByRecursion.{all-has, All-weaker}
 use Rattle.std.proofs.lemmas.Bool.{cases_lt, and_from}
@@ -63,7 +63,7 @@ module _ (n : ℕ) (few : n ≤ 3) (xs us : List Item) (lx : length xs ≡ 2 * n
   pub same_mergings : mergings ts (upto K) (upto L) 0 no_keys ≡ mergings ts (range_with_len 1 K) (range_with_len 1 L) 0 no_keys
   same_mergings = ap (λ l. mergings ts l (upto L) 0 no_keys) (upto_is K KFew) ∙ ap (λ l. mergings ts (range_with_len 1 K) l 0 no_keys) (upto_is L LFew)
 
-  start : All (λ t. like t ≡ true) ts → Sofar ts 0 0 0 no_keys
+  start : AllByRecursion (λ t. like t ≡ true) ts → Sofar ts 0 0 0 no_keys
   start h = record {
     left_long = refl;
     right_long = refl;
@@ -260,7 +260,7 @@ module _ (n : ℕ) (few : n ≤ 3) (xs us : List Item) (lx : length xs ≡ 2 * n
     g_up : (p q : ℕ) → p < q → q ≤ L → g p < g q
     g_up = pick_rises (2 * n + 3) us χ lu above_ranks
 
-    all_fit : All (λ t. (f t.left.rank ≡ g t.right.rank) × (t.left.rank ≤ K) × (t.right.rank ≤ L)) ts
+    all_fit : AllByRecursion (λ t. (f t.left.rank ≡ g t.right.rank) × (t.left.rank ≤ K) × (t.right.rank ≤ L)) ts
     all_fit = ties_by n xs us lx lu (λ t. (f t.left.rank ≡ g t.right.rank) × (t.left.rank ≤ K) × (t.right.rank ≤ L))
         (λ i li. (f_is i (omega arith) ∙ sym (g_is (n + 1 + i) (omega arith)), rank_le xs i (omega arith), rank_le us (n + 1 + i) (omega arith))) (f_zero ∙ sym g_zero, omega arith, omega arith)
 

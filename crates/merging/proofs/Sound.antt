@@ -1,5 +1,5 @@
 use Rattle.std.proofs.Common.{◌≡◌, ℕ, zero, suc, ◌+◌, ◌<◌, ◌≤◌, true, cond, not, eqb, List, [], ◌∷◌, length, get_or, set, sym, ap, ◌∙◌, ⊎_elim, arith}
-use Rattle.std.specs.List.{range_with_len, AllByRecursion as All}
+use Rattle.std.specs.List.{range_with_len, AllByRecursion}
 use Rattle.std.proofs.lemmas.List.{get_or-set_same, get_or-set_other, length-set}
 use Rattle.std.proofs.lemmas.Bool.{cases_eq, and_parts, not-true, eqb-false}
 use Rattle.std.proofs.lemmas.Bool.Decides.{nat_tests}
@@ -20,11 +20,11 @@ set_at xs i v q lt = ⊎_elim
     (λ (n : q ≡ i → ⊥). get_or-set_other xs i q v 0 n ∙ grind (arith, nat_tests))
     (cases_eq q i)
 
-pub all_with : {X : Type 0} (P Q R : X → Type 0) → ((x : X) → P x → Q x → R x) → (xs : List X) → All P xs → All Q xs → All R xs
+pub all_with : {X : Type 0} (P Q R : X → Type 0) → ((x : X) → P x → Q x → R x) → (xs : List X) → AllByRecursion P xs → AllByRecursion Q xs → AllByRecursion R xs
 all_with P Q R f [] p q = tt
 all_with P Q R f (x ∷ xs) p q = (f x p.0 q.0, all_with P Q R f xs p.1 q.1)
 
-pub alone_each : (f : Tie → ℕ) (r : ℕ) (ts : List Tie) → alone f r ts ≡ true → All (λ t. f t ≡ r → ⊥) ts
+pub alone_each : (f : Tie → ℕ) (r : ℕ) (ts : List Tie) → alone f r ts ≡ true → AllByRecursion (λ t. f t ≡ r → ⊥) ts
 alone_each f r [] e = tt
 alone_each f r (t ∷ ts) e = let a = and_parts (not (eqb (f t) r)) _ e in (eqb-false _ _ (not-true _ a.0), alone_each f r ts a.1)
 
@@ -34,7 +34,7 @@ Both l r t = (t.left.rank ≡ l → t.right.rank ≡ r) × (t.right.rank ≡ r �
 both_from : (a b l r : ℕ) → same_test (eqb a l) (eqb b r) ≡ true → (a ≡ l → b ≡ r) × (b ≡ r → a ≡ l)
 both_from a b l r e = ((λ h. grind (arith, nat_tests)), (λ h. grind (arith, nat_tests)))
 
-pub together_each : (l r : ℕ) (ts : List Tie) → together l r ts ≡ true → All (Both l r) ts
+pub together_each : (l r : ℕ) (ts : List Tie) → together l r ts ≡ true → AllByRecursion (Both l r) ts
 together_each l r [] e = tt
 together_each l r (t ∷ ts) e = let a = and_parts (same_test (eqb t.left.rank l) (eqb t.right.rank r)) _ e in (both_from _ _ l r a.0, together_each l r ts a.1)
 
@@ -51,7 +51,7 @@ pub record Sofar (ts : List Tie) (i j p : ℕ) (k : Keys) : Type 0 where
   pub right_low : (q : ℕ) → q ≤ j → right_at k q ≤ p
   pub left_up : (a b : ℕ) → a < b → b ≤ i → left_at k a < left_at k b
   pub right_up : (a b : ℕ) → a < b → b ≤ j → right_at k a < right_at k b
-  pub ties : All (Tied i j k) ts
+  pub ties : AllByRecursion (Tied i j k) ts
 
 module _ (i p : ℕ) (xs : List ℕ) (small : i + 1 < length xs) (zero-first : get_or xs 0 0 ≡ 0) (low : (q : ℕ) → q ≤ i → get_or xs q 0 ≤ p) (up : (a b : ℕ) → a < b → b ≤ i → get_or xs a 0 < get_or xs b 0) where
   next_zero : get_or (set xs (i + 1) (p + 1)) 0 0 ≡ 0

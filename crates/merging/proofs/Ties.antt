@@ -1,5 +1,5 @@
 use Rattle.std.proofs.Common.{◌≡◌, ℕ, zero, suc, ◌+◌, ◌*◌, ◌<◌, ◌≤◌, min, Bool, true, false, ◌&&◌, eqb, leb, List, [], ◌∷◌, length, get_or, take, drop, sym, refl, ap, ◌∙◌, subst, ⊎_elim, arith}
-use Rattle.std.specs.List.{range_with_len, AllByRecursion as All}
+use Rattle.std.specs.List.{range_with_len, AllByRecursion}
 use Rattle.std.proofs.lemmas.List.{get_or-take, get_or-drop, get_or_past, length-take, length-drop}
 use Rattle.std.proofs.ByRecursion.{All-get_or}
 use Rattle.std.proofs.lemmas.Bool.{cases_lt, and_parts, and_from, eqb-true, eq-eqb, leb-true}
@@ -11,11 +11,11 @@ use Rattle.merging.specs.declared.Tie.{Tie}
 use Rattle.merging.specs.Ways.{same_test}
 use Rattle.merging.specs.Pop.{blank_tie, tie, ties_of, shared, like, in_order, agrees, upto}
 
-pub all_from : {X : Type 0} (p : X → Bool) (xs : List X) → All (λ x. p x ≡ true) xs → all p xs ≡ true
+pub all_from : {X : Type 0} (p : X → Bool) (xs : List X) → AllByRecursion (λ x. p x ≡ true) xs → all p xs ≡ true
 all_from p [] h = refl
 all_from p (x ∷ xs) h = and_from (p x) (all p xs) h.0 (all_from p xs h.1)
 
-pub all_to : {X : Type 0} (p : X → Bool) (xs : List X) → all p xs ≡ true → All (λ x. p x ≡ true) xs
+pub all_to : {X : Type 0} (p : X → Bool) (xs : List X) → all p xs ≡ true → AllByRecursion (λ x. p x ≡ true) xs
 all_to p [] h = tt
 all_to p (x ∷ xs) h = let a = and_parts (p x) (all p xs) h in (a.0, all_to p xs a.1)
 
@@ -27,10 +27,10 @@ ties_at ls rs (suc (suc (suc zero))) lt = refl
 ties_at ls rs (suc (suc (suc (suc zero)))) lt = refl
 ties_at ls rs (suc (suc (suc (suc (suc i))))) lt = absurd (omega arith)
 
-pub ties_get : (P : Tie → Type 0) (ls rs : List Item) → All P (ties_of ls rs) → (i : ℕ) → i < 5 → P (tie ls rs i)
+pub ties_get : (P : Tie → Type 0) (ls rs : List Item) → AllByRecursion P (ties_of ls rs) → (i : ℕ) → i < 5 → P (tie ls rs i)
 ties_get P ls rs a i lt = subst P (ties_at ls rs i lt) (All-get_or P (ties_of ls rs) i blank_tie lt a)
 
-pub ties_make : (P : Tie → Type 0) (ls rs : List Item) → ((i : ℕ) → P (tie ls rs i)) → All P (ties_of ls rs)
+pub ties_make : (P : Tie → Type 0) (ls rs : List Item) → ((i : ℕ) → P (tie ls rs i)) → AllByRecursion P (ties_of ls rs)
 ties_make P ls rs h = (h 0, (h 1, (h 2, (h 3, (h 4, tt)))))
 
 abbrev pub as_tie : Item → Item → Tie
@@ -46,10 +46,10 @@ module _ (n : ℕ) (xs us : List Item) (lx : length xs ≡ 2 * n + 4) (lu : leng
       ∙ ap (as_tie none) (get_or_past (drop (n + 1) us) i none (omega (arith, length-drop (n + 1) us)))
 
   -- what holds of the items in common and of a blank holds of all ties
-  pub ties_by : (P : Tie → Type 0) → ((i : ℕ) → i < n + 2 → P (as_tie (get_or xs i none) (get_or us (n + 1 + i) none))) → P blank_tie → All P (shared n xs us)
+  pub ties_by : (P : Tie → Type 0) → ((i : ℕ) → i < n + 2 → P (as_tie (get_or xs i none) (get_or us (n + 1 + i) none))) → P blank_tie → AllByRecursion P (shared n xs us)
   ties_by P h b = ties_make P (take (n + 2) xs) (drop (n + 1) us) (λ i. ⊎_elim (λ (lt : i < n + 2). subst P (sym (tie_here i lt)) (h i lt)) (λ (ge : n + 2 ≤ i). subst P (sym (tie_past i ge)) b) (cases_lt i (n + 2)))
 
-  pub ties_of_all : n ≤ 3 → (P : Tie → Type 0) → All P (shared n xs us) → (i : ℕ) → i < n + 2 → P (as_tie (get_or xs i none) (get_or us (n + 1 + i) none))
+  pub ties_of_all : n ≤ 3 → (P : Tie → Type 0) → AllByRecursion P (shared n xs us) → (i : ℕ) → i < n + 2 → P (as_tie (get_or xs i none) (get_or us (n + 1 + i) none))
   ties_of_all few P a i lt = subst P (tie_here i lt) (ties_get P (take (n + 2) xs) (drop (n + 1) us) a i (omega arith))
 
 -- the ranks up to k
@@ -75,9 +75,9 @@ like_to t e = let p = and_parts (eqb t.left.whole t.right.whole) _ e in let q = 
 pub in_order_from : (t v : Tie) → (t.left.rank ≤ v.left.rank → t.right.rank ≤ v.right.rank) → (t.right.rank ≤ v.right.rank → t.left.rank ≤ v.left.rank) → in_order t v ≡ true
 in_order_from t v f g = same_true (leb t.left.rank v.left.rank) (leb t.right.rank v.right.rank) (λ e. let h = f (leb-true _ _ e) in grind (arith, nat_tests)) (λ e. let h = g (leb-true _ _ e) in grind (arith, nat_tests))
 
-pub likes : (ts : List Tie) → agrees ts ≡ true → All (λ t. like t ≡ true) ts
+pub likes : (ts : List Tie) → agrees ts ≡ true → AllByRecursion (λ t. like t ≡ true) ts
 likes ts e = go ts (all_to (λ t. like t && all (in_order t) ts) ts e)
   where
-    go : (us : List Tie) → All (λ t. (like t && all (in_order t) ts) ≡ true) us → All (λ t. like t ≡ true) us
+    go : (us : List Tie) → AllByRecursion (λ t. (like t && all (in_order t) ts) ≡ true) us → AllByRecursion (λ t. like t ≡ true) us
     go [] a = tt
     go (t ∷ us) a = ((and_parts (like t) (all (in_order t) ts) a.0).0, go us a.1)

@@ -1,5 +1,5 @@
 use Rattle.std.proofs.Common.{◌≡◌, ℕ, ◌+◌, Bool, true, false, List, [], ◌∷◌, refl}
-use Rattle.std.specs.List.{ContainsAt as Has, AllByRecursion as All}
+use Rattle.std.specs.List.{ContainsAt as Has, AllByRecursion}
 use Rattle.std.proofs.ByRecursion.{All-append, All-weaker, has_append_left, has_append_right, has_push}
 use Rattle.merging.specs.declared.Tie.{Tie}
 use Rattle.merging.specs.declared.Keys.{Keys}
@@ -22,7 +22,7 @@ written (goes_both {l} {r} a w) p k = written w (p + 1) (on_right r (p + 1) (on_
 abbrev pub Made : List Tie → List ℕ → List ℕ → ℕ → Keys → Keys → Type 0
 Made ts ls rs p k x = (w : Way ts ls rs) × (x ≡ written w p k)
 
-pub all_when : {X : Type 0} (P : X → Type 0) (b : Bool) (xs : List X) → (b ≡ true → All P xs) → All P (when b xs)
+pub all_when : {X : Type 0} (P : X → Type 0) (b : Bool) (xs : List X) → (b ≡ true → AllByRecursion P xs) → AllByRecursion P (when b xs)
 all_when P true xs h = h refl
 all_when P false xs h = tt
 
@@ -30,12 +30,12 @@ pub has_when : {X : Type 0} (b : Bool) (xs : List X) (x : X) → b ≡ true → 
 has_when b xs x e h = rw e h
 
 -- each merging that is listed is a way
-all_rights : (ts : List Tie) (rs : List ℕ) (p : ℕ) (k : Keys) → All (Made ts [] rs p k) (rights ts rs p k)
+all_rights : (ts : List Tie) (rs : List ℕ) (p : ℕ) (k : Keys) → AllByRecursion (Made ts [] rs p k) (rights ts rs p k)
 all_rights ts [] p k = ((done, refl), tt)
 all_rights ts (r ∷ rs) p k = all_when _ (alone from_right r ts) _ (λ a. All-weaker _ _ (λ x h. (goes_right a h.0, h.1)) _ (all_rights ts rs (p + 1) (on_right r (p + 1) k)))
 
-all_steps : (ts : List Tie) (l : ℕ) (ls : List ℕ) (go : List ℕ → ℕ → Keys → List Keys) → ((rs : List ℕ) (p : ℕ) (k : Keys) → All (Made ts ls rs p k) (go rs p k))
-    → (rs : List ℕ) (p : ℕ) (k : Keys) → All (Made ts (l ∷ ls) rs p k) (steps ts l go rs p k)
+all_steps : (ts : List Tie) (l : ℕ) (ls : List ℕ) (go : List ℕ → ℕ → Keys → List Keys) → ((rs : List ℕ) (p : ℕ) (k : Keys) → AllByRecursion (Made ts ls rs p k) (go rs p k))
+    → (rs : List ℕ) (p : ℕ) (k : Keys) → AllByRecursion (Made ts (l ∷ ls) rs p k) (steps ts l go rs p k)
 all_steps ts l ls go h [] p k = all_when _ (alone from_left l ts) _ (λ a. All-weaker _ _ (λ x m. (goes_left a m.0, m.1)) _ (h [] (p + 1) (on_left l (p + 1) k)))
 all_steps ts l ls go h (r ∷ rs) p k =
     All-append _ _ _
@@ -44,7 +44,7 @@ all_steps ts l ls go h (r ∷ rs) p k =
     (all_when _ (alone from_right r ts) _ (λ a. All-weaker _ _ (λ x m. (goes_right a m.0, m.1)) _ (all_steps ts l ls go h rs (p + 1) (on_right r (p + 1) k))))
     (all_when _ (together l r ts) _ (λ a. All-weaker _ _ (λ x m. (goes_both a m.0, m.1)) _ (h rs (p + 1) (on_right r (p + 1) (on_left l (p + 1) k))))))
 
-pub all_ways : (ts : List Tie) (ls rs : List ℕ) (p : ℕ) (k : Keys) → All (Made ts ls rs p k) (mergings ts ls rs p k)
+pub all_ways : (ts : List Tie) (ls rs : List ℕ) (p : ℕ) (k : Keys) → AllByRecursion (Made ts ls rs p k) (mergings ts ls rs p k)
 all_ways ts [] rs p k = all_rights ts rs p k
 all_ways ts (l ∷ ls) rs p k = all_steps ts l ls (mergings ts ls) (all_ways ts ls) rs p k
 

@@ -1,6 +1,6 @@
 -- Every document reads back as itself, however it is laid out.
 use Rattle.std.proofs.Common.{◌≡◌, ℕ, zero, suc, ◌+◌, ◌<◌, true, false, leb, List, [], ◌∷◌, ◌++◌, map, length, codes, sym, refl, ap, ◌∙◌, subst, append_assoc, arith, le-leb}
-use Rattle.std.specs.List.{AllByRecursion as All}
+use Rattle.std.specs.List.{AllByRecursion}
 use Rattle.std.specs.Str.{bytes_eq}
 use Rattle.std.proofs.lemmas.List.{append-nil}
 use Rattle.automaton.specs.declared.model.Opening.{Opening}
@@ -67,7 +67,7 @@ pub record Rowed {A : Type 0} (kind : Kind) (show : A → List Piece) (value : A
   pub back : (v : A) → Good v → Reads (row_due kind) (show v) (value v)
 
 module _ {A : Type 0} (kind : Kind) (show : A → List Piece) (value : A → Ask) (Good : A → Type 0) (rowed : Rowed kind show value Good) where
-  items_back : (v : A) (vs : List A) (k : ℕ) (got : List Ask) (a b : Ahead) → size a < k → Good v → All Good vs → Shows (items_pieces show v vs) a b → items (row_due kind) k got a ≡ gives (got ++ value v ∷ map value vs) b
+  items_back : (v : A) (vs : List A) (k : ℕ) (got : List Ask) (a b : Ahead) → size a < k → Good v → AllByRecursion Good vs → Shows (items_pieces show v vs) a b → items (row_due kind) k got a ≡ gives (got ++ value v ∷ map value vs) b
   unfolding items
   items_back v vs zero got a b less fit fits s = absurd (omega arith)
   items_back v [] (suc k) got a b less fit fits s =
@@ -92,11 +92,11 @@ module _ {A : Type 0} (kind : Kind) (show : A → List Piece) (value : A → Ask
       let t : Shows (punct 91 ∷ o.0) a b = subst (λ ks. Shows ks a b) o.1 s in
       rw t.2
 
-  rows_back : (got : List Ask) (vs : List A) → All Good vs → Reads (rows_due kind got) (list_pieces show vs) (got ++ map value vs)
+  rows_back : (got : List Ask) (vs : List A) → AllByRecursion Good vs → Reads (rows_due kind got) (list_pieces show vs) (got ++ map value vs)
   rows_back got [] fits = reads_then (mark_due 91) _ (punct 91 ∷ []) (punct 93 ∷ []) _ _ (reads_mark 91) (record { back = λ a b s. rw (s.2, s.3) (ap (λ l. gives l b) (sym (append-nil got))) })
   rows_back got (v ∷ vs) fits = reads_then (mark_due 91) _ (punct 91 ∷ []) (items_pieces show v vs) _ _ (reads_mark 91) (record { back = λ a b s. rw (not_closed v vs a b s) (items_back v vs (suc (size a)) got a b (omega arith) fits.0 fits.1 s) })
 
-  pub object_back : (head : Ask) (w : List ℕ) → bytes_eq w w ≡ true → (vs : List A) → All Good vs → Reads (object_due head w kind) (rows_pieces w show vs) (head ∷ map value vs)
+  pub object_back : (head : Ask) (w : List ℕ) → bytes_eq w w ≡ true → (vs : List A) → AllByRecursion Good vs → Reads (object_due head w kind) (rows_pieces w show vs) (head ∷ map value vs)
   object_back head w e vs fits =
       reads_then (mark_due 44) _ (punct 44 ∷ []) _ _ _ (reads_mark 44) (reads_then (member_due w) _ (member_pieces w) _ _ _ (reads_member w e)
       (reads_then (rows_due kind (head ∷ [])) _ (list_pieces show vs) _ _ _ (rows_back (head ∷ []) vs fits) (reads_then (mark_due 125) _ (punct 125 ∷ []) [] _ _ (reads_mark 125) (reads_gives (head ∷ map value vs)))))
@@ -119,7 +119,7 @@ step_opens (fires k v) = refl
 steps_rowed : Rowed Steps step_pieces step_ask SmallStep
 steps_rowed = record { tail = step_tail; opens = step_opens; back = reads_step }
 
-model_back : (o : Opening) (ns : List RuleNumbers) → SmallOpening o → All SmallRule ns → Reads model_due (model_pieces o ns) (model_asks o ns)
+model_back : (o : Opening) (ns : List RuleNumbers) → SmallOpening o → AllByRecursion SmallRule ns → Reads model_due (model_pieces o ns) (model_asks o ns)
 model_back o ns h hs = reads_then opening_due _ (opening_pieces o) _ _ _ (reads_opening o h) (object_back Rules rule_pieces Add SmallRule rules_rowed (Open o) (codes "rules") refl ns hs)
 
 scale_back : (n : ℕ) → Small n → Reads scale_due (punct 123 ∷ field_pieces (codes "scale") n) n
@@ -128,7 +128,7 @@ scale_back n h = reads_then (mark_due 123) _ (punct 123 ∷ []) _ _ _ (reads_mar
 run_back : (r : Run) → SmallRun r → Reads run_due (run_pieces r) (run_asks r)
 run_back r h = reads_then scale_due _ (punct 123 ∷ field_pieces (codes "scale") r.scale) _ _ _ (scale_back r.scale h.scale) (object_back Steps step_pieces step_ask SmallStep steps_rowed (Begin r.scale) (codes "run") refl r.steps h.steps)
 
-later_back : (rs : List Run) → All SmallRun rs → (k : ℕ) (w : View) (a : Ahead) (q : ℕ) → size a < k → Shows (runs_pieces rs) a (end q) → later k w a ≡ runs_said w rs
+later_back : (rs : List Run) → AllByRecursion SmallRun rs → (k : ℕ) (w : View) (a : Ahead) (q : ℕ) → size a < k → Shows (runs_pieces rs) a (end q) → later k w a ≡ runs_said w rs
 unfolding later
 later_back rs hs zero w a q less s = absurd (omega arith)
 later_back [] hs (suc k) w a q less s = rw (reads_close.back a (end q) s)
@@ -147,7 +147,7 @@ laid_shows (l ∷ ls) last p = let r = laid_shows ls last (p + length l.gap + le
 opening_next : (o : Opening) (js : List Piece) (a b : Ahead) → Shows (opening_pieces o ++ js) a b → mark_next 93 a ≡ false
 opening_next o js a b s = rw s.2
 
-document_back : (d : Document) → SmallOpening d.opening → All SmallRule d.rules → All SmallRun d.runs → (a : Ahead) (q : ℕ) → Shows (document_pieces d) a (end q) → document a ≡ document_said d
+document_back : (d : Document) → SmallOpening d.opening → AllByRecursion SmallRule d.rules → AllByRecursion SmallRun d.runs → (a : Ahead) (q : ℕ) → Shows (document_pieces d) a (end q) → document a ≡ document_said d
 document_back d ho hn hr a q s =
     let b = s.1 in
     let one : mark_due 91 a ≡ gives tt b = (reads_mark 91).back a b (s.0, b, s.2, refl) in

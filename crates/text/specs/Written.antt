@@ -1,6 +1,6 @@
 -- A document as data, how it is written, and what its calls come to.
 use Rattle.std.specs.Prelude.{◌≡◌, ℕ, ◌≤◌, List, [], ◌∷◌, ◌++◌, map, length, codes, decimal}
-use Rattle.std.specs.List.{AllByRecursion as All}
+use Rattle.std.specs.List.{AllByRecursion}
 use Rattle.automaton.specs.declared.model.Opening.{Opening}
 use Rattle.automaton.specs.declared.rule.RuleNumbers.{RuleNumbers}
 use Rattle.token.specs.Layout.{Piece, word, numeric, punct, Laid, layout, Lays}
@@ -115,7 +115,7 @@ SmallStep (fires k v) = Small k × Small v
 
 pub record SmallRun (r : Run) : Type 0 where
   pub scale : Small r.scale
-  pub steps : All SmallStep r.steps
+  pub steps : AllByRecursion SmallStep r.steps
 
 -- the text is the document, with any white space between its tokens
 pub record Writes (d : Document) (text : List ℕ) : Type 0 where
@@ -126,8 +126,8 @@ pub record Writes (d : Document) (text : List ℕ) : Type 0 where
   pub whole : layout pieces last ≡ text
   pub short : length text ≤ 65536
   pub opening : SmallOpening d.opening
-  pub rules : All SmallRule d.rules
-  pub runs : All SmallRun d.runs
+  pub rules : AllByRecursion SmallRule d.rules
+  pub runs : AllByRecursion SmallRun d.runs
 
 -- however a document is laid out, what is said is what its own calls come to
 abbrev pub AsWritten : List ℕ → List Said → Type 0

@@ -1,6 +1,6 @@
 -- What is laid out is read as it is, and what is read was laid out.
 use Rattle.std.proofs.Common.{◌≡◌, ℕ, zero, suc, ◌+◌, ◌-◌, ◌<◌, ◌≤◌, Bool, true, false, cond, ◌&&◌, eqb, ltb, List, [], ◌∷◌, ◌++◌, length, drop, sym, refl, ap, ◌∙◌, subst, append_assoc, one-add, arith}
-use Rattle.std.specs.List.{prefix_len, AllByRecursion as All}
+use Rattle.std.specs.List.{prefix_len, AllByRecursion}
 use Rattle.std.proofs.lemmas.List.{drop_at, take_at, append-nil, length-append}
 use Rattle.std.proofs.lemmas.Bool.{true≢false, eqb-true, eqb-false, ltb-true}
 use Rattle.std.proofs.lemmas.Bool.Decides.{nat_tests}
@@ -13,7 +13,7 @@ use Rattle.token.proofs.Going.{go, arrives}
 use Rattle.token.proofs.Numbers.{cut_rest, leading_cut, number_cut}
 use Rattle.token.proofs.Longest.{leading_exact, leading_stop, longest_len, cut_longest, number_some}
 
-name_word : (w more : List ℕ) → 0 < length w → All (λ b. letter b ≡ true) w → name_len (34 ∷ (w ++ 34 ∷ more)) ≡ 2 + length w
+name_word : (w more : List ℕ) → 0 < length w → AllByRecursion (λ b. letter b ≡ true) w → name_len (34 ∷ (w ++ 34 ∷ more)) ≡ 2 + length w
 name_word w more some all =
     let run : prefix_len letter (w ++ 34 ∷ more) ≡ length w = leading_exact letter w (34 ∷ more) all refl in
     let long : ltb 0 (length w) ≡ true = grind (arith, nat_tests) in
@@ -32,7 +32,7 @@ at_piece [] p some = absurd (omega arith)
 at_piece (b ∷ bs) p some = let any : eqb (token_len (b ∷ bs)) 0 ≡ false = grind (arith, nat_tests) in rw any
 
 -- laid-out pieces are read as they are
-goes_on : (k : Piece) (more : List ℕ) → Stands k more → (gap : List ℕ) (p : ℕ) → All (λ b. white b ≡ true) gap → ahead 0 (gap ++ (written k ++ more)) p ≡ token (tok k (p + length gap)) (ahead 0 more (p + length gap + length (written k)))
+goes_on : (k : Piece) (more : List ℕ) → Stands k more → (gap : List ℕ) (p : ℕ) → AllByRecursion (λ b. white b ≡ true) gap → ahead 0 (gap ++ (written k ++ more)) p ≡ token (tok k (p + length gap)) (ahead 0 more (p + length gap + length (written k)))
 goes_on k more s gap p all =
     let lead : prefix_len white (gap ++ (written k ++ more)) ≡ length gap = leading_exact white gap (written k ++ more) all s.dark in
     arrives (gap ++ (written k ++ more)) p ∙ rw (lead, drop_at gap (written k ++ more) (length gap) refl) (at_piece (written k ++ more) (p + length gap) (rw s.long s.some) ∙ rw (s.same, s.long, drop_at (written k) more (length (written k)) refl))
@@ -149,7 +149,7 @@ begins_rest : (bs : List ℕ) (g : Begins bs) → drop (token_len bs) bs ≡ g.m
 begins_rest bs g = ap (drop (token_len bs)) g.parts ∙ drop_at (written g.piece) g.more (token_len bs) (sym (begins_long bs g))
 
 -- one piece more before a text that is laid out
-lay : (gap rest bs : List ℕ) → All (λ b. white b ≡ true) gap → bs ≡ gap ++ rest → (g : Begins rest) → LaidOut g.more → LaidOut bs
+lay : (gap rest bs : List ℕ) → AllByRecursion (λ b. white b ≡ true) gap → bs ≡ gap ++ rest → (g : Begins rest) → LaidOut g.more → LaidOut bs
 lay gap rest bs all parts g l = record {
   pieces = record { gap = gap; piece = g.piece } ∷ l.pieces;
   last = l.last;
@@ -158,7 +158,7 @@ lay gap rest bs all parts g l = record {
 }
 
 module _ (bs : List ℕ) (shorter : (less : List ℕ) (q : ℕ) → length less < length bs → Clean (ahead 0 less q) → LaidOut less) where
-  token_laid : (gap rest : List ℕ) (s : ℕ) (t : Bool) → eqb (token_len rest) 0 ≡ t → All (λ b. white b ≡ true) gap → bs ≡ gap ++ rest → Clean (cond t (none s) (token (token_of rest s) (ahead 0 (drop (token_len rest) rest) (s + token_len rest)))) → LaidOut bs
+  token_laid : (gap rest : List ℕ) (s : ℕ) (t : Bool) → eqb (token_len rest) 0 ≡ t → AllByRecursion (λ b. white b ≡ true) gap → bs ≡ gap ++ rest → Clean (cond t (none s) (token (token_of rest s) (ahead 0 (drop (token_len rest) rest) (s + token_len rest)))) → LaidOut bs
   token_laid gap rest s true e all parts clean = absurd clean
   token_laid gap rest s false e all parts clean =
       let some : 0 < token_len rest = let z = eqb-false _ 0 e in grind arith in
@@ -166,8 +166,8 @@ module _ (bs : List ℕ) (shorter : (less : List ℕ) (q : ℕ) → length less 
       let count : length bs ≡ length gap + (length (written g.piece) + length g.more) = ap length parts ∙ length-append gap rest ∙ ap (λ m. length gap + m) (ap length g.parts ∙ length-append (written g.piece) g.more) in
       lay gap rest bs all parts g (shorter g.more _ (omega (arith, begins_long rest g)) (subst (λ m. Clean (ahead 0 m (s + token_len rest))) (begins_rest rest g) clean))
 
-  rest_laid : (gap rest : List ℕ) (s : ℕ) → All (λ b. white b ≡ true) gap → bs ≡ gap ++ rest → Clean (go rest s) → LaidOut bs
-  rest_laid gap [] s all parts clean = record { pieces = []; last = bs; lays = subst (λ l. All (λ b. white b ≡ true) l) (sym (parts ∙ append-nil gap)) all; whole = refl }
+  rest_laid : (gap rest : List ℕ) (s : ℕ) → AllByRecursion (λ b. white b ≡ true) gap → bs ≡ gap ++ rest → Clean (go rest s) → LaidOut bs
+  rest_laid gap [] s all parts clean = record { pieces = []; last = bs; lays = subst (λ l. AllByRecursion (λ b. white b ≡ true) l) (sym (parts ∙ append-nil gap)) all; whole = refl }
   rest_laid gap (b ∷ rest) s all parts clean = token_laid gap (b ∷ rest) s _ refl all parts clean
 
   all_laid : (p : ℕ) → Clean (ahead 0 bs p) → LaidOut bs

@@ -1,6 +1,6 @@
 -- No longer number stands at the front of some bytes.
 use Rattle.std.proofs.Common.{◌≡◌, ℕ, ◌+◌, ◌<◌, ◌≤◌, Bool, true, false, cond, ◌||◌, eqb, ltb, ◌⊎◌, List, [], ◌∷◌, ◌++◌, length, drop, sym, refl, ap, ◌∙◌, inl, inr, append_assoc, add-zero, arith}
-use Rattle.std.specs.List.{prefix_len, AllByRecursion as All}
+use Rattle.std.specs.List.{prefix_len, AllByRecursion}
 use Rattle.std.proofs.lemmas.List.{drop_at, get_or_append_left, length-append}
 use Rattle.std.proofs.lemmas.Bool.{ne_eqb}
 use Rattle.std.proofs.lemmas.Bool.Decides.{nat_tests}
@@ -10,7 +10,7 @@ use Rattle.token.specs.Numbers.{Digits, Minus, Whole, Fraction, Signed, Power, E
 use Rattle.token.proofs.Numbers.{Cut, number_cut}
 
 -- a run goes on through bytes that pass the test, and stops where one fails
-leading_more : (p : ℕ → Bool) (ws xs : List ℕ) → All (λ b. p b ≡ true) ws → prefix_len p (ws ++ xs) ≡ length ws + prefix_len p xs
+leading_more : (p : ℕ → Bool) (ws xs : List ℕ) → AllByRecursion (λ b. p b ≡ true) ws → prefix_len p (ws ++ xs) ≡ length ws + prefix_len p xs
 leading_more p [] xs all = omega arith
 leading_more p (w ∷ ws) xs all = rw (all.0, leading_more p ws xs all.1) (omega arith)
 
@@ -18,7 +18,7 @@ pub leading_stop : (p : ℕ → Bool) (xs : List ℕ) → p (front xs) ≡ false
 leading_stop p [] e = refl
 leading_stop p (x ∷ xs) e = rw e
 
-pub leading_exact : (p : ℕ → Bool) (ws xs : List ℕ) → All (λ b. p b ≡ true) ws → p (front xs) ≡ false → prefix_len p (ws ++ xs) ≡ length ws
+pub leading_exact : (p : ℕ → Bool) (ws xs : List ℕ) → AllByRecursion (λ b. p b ≡ true) ws → p (front xs) ≡ false → prefix_len p (ws ++ xs) ≡ length ws
 leading_exact p ws xs all e = leading_more p ws xs all ∙ ap (λ k. length ws + k) (leading_stop p xs e) ∙ add-zero (length ws)
 
 front_digit : (ds more : List ℕ) → Digits ds → digit (front (ds ++ more)) ≡ true

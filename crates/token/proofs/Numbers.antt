@@ -1,6 +1,6 @@
 -- The number at the front of some bytes is the longest one.
 use Rattle.std.proofs.Common.{◌≡◌, ℕ, ◌+◌, ◌<◌, Bool, true, false, cond, ◌&&◌, ◌||◌, eqb, ltb, ◌⊎◌, List, [], ◌∷◌, ◌++◌, length, drop, sym, refl, ap, ◌∙◌, subst, inl, inr, append_assoc, arith}
-use Rattle.std.specs.List.{prefix_len, AllByRecursion as All}
+use Rattle.std.specs.List.{prefix_len, AllByRecursion}
 use Rattle.std.proofs.lemmas.List.{drop_at, get_or_append_left, length-append}
 use Rattle.std.proofs.lemmas.Bool.{eqb-true, eqb-false, ltb-true, or_cases}
 use Rattle.token.specs.Bytes.{digit}
@@ -34,11 +34,11 @@ join {n} {m} {K} {L} {J} {bs} both c d = record {
 }
 
 -- a run of bytes that pass a test
-leading_case : (p : ℕ → Bool) (b : ℕ) (bs : List ℕ) (t : Bool) → p b ≡ t → Cut (prefix_len p bs) (λ ws. All (λ b. p b ≡ true) ws) bs → Cut (cond t (1 + prefix_len p bs) 0) (λ ws. All (λ b. p b ≡ true) ws) (b ∷ bs)
+leading_case : (p : ℕ → Bool) (b : ℕ) (bs : List ℕ) (t : Bool) → p b ≡ t → Cut (prefix_len p bs) (λ ws. AllByRecursion (λ b. p b ≡ true) ws) bs → Cut (cond t (1 + prefix_len p bs) 0) (λ ws. AllByRecursion (λ b. p b ≡ true) ws) (b ∷ bs)
 leading_case p b bs true e c = record { piece = b ∷ c.piece; more = c.more; parts = ap (λ l. b ∷ l) c.parts; long = omega (arith, c.long); kind = (e, c.kind) }
 leading_case p b bs false e c = no_cut (b ∷ bs) tt
 
-pub leading_cut : (p : ℕ → Bool) (bs : List ℕ) → Cut (prefix_len p bs) (λ ws. All (λ b. p b ≡ true) ws) bs
+pub leading_cut : (p : ℕ → Bool) (bs : List ℕ) → Cut (prefix_len p bs) (λ ws. AllByRecursion (λ b. p b ≡ true) ws) bs
 leading_cut p [] = no_cut [] tt
 leading_cut p (b ∷ bs) = leading_case p b bs (p b) refl (leading_cut p bs)
 

@@ -1,6 +1,6 @@
 -- The value of a number token is the number that it writes.
 use Rattle.std.proofs.Common.{◌≡◌, ℕ, ◌+◌, ◌-◌, ◌*◌, ◌/◌, ◌%◌, ◌^◌, ◌<◌, ◌≤◌, Bool, true, false, cond, ◌&&◌, leb, ◌⊎◌, List, [], ◌∷◌, ◌++◌, length, Some, None, Ok, Err, decimal, Option, Result, sym, refl, ap, ◌∙◌, subst, inl, inr, append_assoc, arith, rules}
-use Rattle.std.specs.List.{AllByRecursion as All}
+use Rattle.std.specs.List.{AllByRecursion}
 use Rattle.std.specs.Str.{all_ascii_digits}
 use Rattle.std.proofs.lemmas.List.{append-nil, get_or_append_left}
 use Rattle.std.proofs.lemmas.Fmt.{decimal_by_steps, decimal-digits_value}
@@ -46,7 +46,7 @@ own : IsNumeralModel (λ ds. all_ascii_digits ds ≡ true) (reading 0)
 own = numerals_by_fold _ (search rules) reading (search rules)
 
 record Valued (m : ℕ) (ds : List ℕ) (n : ℕ) : Type 0 where
-  pub all : All (λ b. digit b ≡ true) ds
+  pub all : AllByRecursion (λ b. digit b ≡ true) ds
   pub digits : all_ascii_digits ds ≡ true
   pub same : reading m ds ≡ n
   pub small : n ≤ LIMIT
@@ -70,25 +70,25 @@ power_digit : (e : ℕ) → ((e ≡ 101) ⊎ (e ≡ 69)) → digit e ≡ true �
 power_digit e (inl h) d = absurd (true≢false (sym d ∙ rw h))
 power_digit e (inr h) d = absurd (true≢false (sym d ∙ rw h))
 
-tail_nil : (f x : List ℕ) → Fraction f → Exponent x → All (λ b. digit b ≡ true) (f ++ x) → length (f ++ x) ≡ 0
-tail_nil f x (inr h) k all = absurd (true≢false (sym (subst (λ l. All (λ b. digit b ≡ true) (l ++ x)) h.2 all).0))
+tail_nil : (f x : List ℕ) → Fraction f → Exponent x → AllByRecursion (λ b. digit b ≡ true) (f ++ x) → length (f ++ x) ≡ 0
+tail_nil f x (inr h) k all = absurd (true≢false (sym (subst (λ l. AllByRecursion (λ b. digit b ≡ true) (l ++ x)) h.2 all).0))
 tail_nil f x (inl e) (inl z) all = rw (e, z)
 tail_nil f x (inl e) (inr (q, ds, p, d, z)) all =
     let here : x ≡ p.0 ∷ (p.1 ++ ds) = z ∙ ap (λ l. l ++ ds) p.4 in
-    let there : All (λ b. digit b ≡ true) (p.0 ∷ (p.1 ++ ds)) = subst (λ l. All (λ b. digit b ≡ true) l) (ap (λ l. l ++ x) e ∙ here) all in
+    let there : AllByRecursion (λ b. digit b ≡ true) (p.0 ∷ (p.1 ++ ds)) = subst (λ l. AllByRecursion (λ b. digit b ≡ true) l) (ap (λ l. l ++ x) e ∙ here) all in
     absurd (power_digit p.0 p.2 there.0)
 
-alone : (s w t : List ℕ) → Minus s → Whole w → (All (λ b. digit b ≡ true) t → length t ≡ 0) → All (λ b. digit b ≡ true) ((s ++ w) ++ t) → front ((s ++ w) ++ t) ≡ 48 → length ((s ++ w) ++ t) ≡ 1
-alone s w t (inr e) j none_left all zero-first = absurd (true≢false (sym (subst (λ l. All (λ b. digit b ≡ true) ((l ++ w) ++ t)) e all).0))
+alone : (s w t : List ℕ) → Minus s → Whole w → (AllByRecursion (λ b. digit b ≡ true) t → length t ≡ 0) → AllByRecursion (λ b. digit b ≡ true) ((s ++ w) ++ t) → front ((s ++ w) ++ t) ≡ 48 → length ((s ++ w) ++ t) ≡ 1
+alone s w t (inr e) j none_left all zero-first = absurd (true≢false (sym (subst (λ l. AllByRecursion (λ b. digit b ≡ true) ((l ++ w) ++ t)) e all).0))
 alone s w t (inl e) (inl z) none_left all zero-first =
     let here : (s ++ w) ++ t ≡ 48 ∷ t = (λ i. (e i ++ z i) ++ t) in
-    let short = none_left (subst (λ l. All (λ b. digit b ≡ true) l) here all).1 in
+    let short = none_left (subst (λ l. AllByRecursion (λ b. digit b ≡ true) l) here all).1 in
     omega (arith, ap length here)
 alone s w t (inl e) (inr h) none_left all zero-first = absurd (h.1 (sym (get_or_append_left w t 0 0 h.0.0) ∙ sym (ap (λ l. front ((l ++ w) ++ t)) e) ∙ zero-first))
 
-no_leading_zero : (ds : List ℕ) → Number ds → All (λ b. digit b ≡ true) ds → front ds ≡ 48 → length ds ≡ 1
+no_leading_zero : (ds : List ℕ) → Number ds → AllByRecursion (λ b. digit b ≡ true) ds → front ds ≡ 48 → length ds ≡ 1
 no_leading_zero ds n all zero-first =
-    ap length n.joined ∙ alone n.minus n.whole (n.fraction ++ n.exponent) n.is_minus n.is_whole (tail_nil n.fraction n.exponent n.is_fraction n.is_exponent) (subst (λ l. All (λ b. digit b ≡ true) l) n.joined all) (ap front (sym n.joined) ∙ zero-first)
+    ap length n.joined ∙ alone n.minus n.whole (n.fraction ++ n.exponent) n.is_minus n.is_whole (tail_nil n.fraction n.exponent n.is_fraction n.is_exponent) (subst (λ l. AllByRecursion (λ b. digit b ≡ true) l) n.joined all) (ap front (sym n.joined) ∙ zero-first)
 
 -- a number token with a value is the decimal writing of it
 written_so : (ds : List ℕ) (n : ℕ) → Number ds → 0 < length ds → numeral 0 ds ≡ Some n → (ds ≡ decimal n) × (n ≤ LIMIT)

@@ -1,6 +1,6 @@
 -- How a text may be laid out: tokens with any white bytes before each, and at the end.
 use Rattle.std.specs.Prelude.{◌≡◌, ℕ, ◌+◌, ◌<◌, true, List, [], ◌∷◌, ◌++◌, length}
-use Rattle.std.specs.List.{AllByRecursion as All}
+use Rattle.std.specs.List.{AllByRecursion}
 use Rattle.token.specs.Bytes.{white, letter, mark}
 use Rattle.token.specs.Numbers.{Longest}
 use Rattle.token.specs.Tokens.{Tok, name, number, sign, Ahead, token, end, none}
@@ -24,7 +24,7 @@ tok (punct c) p = sign (c ∷ []) p
 
 -- the piece may be written before these bytes. A number wants after it nothing that makes it longer
 abbrev pub Fair : Piece → List ℕ → Type 0
-Fair (word w) more = (0 < length w) × All (λ b. letter b ≡ true) w
+Fair (word w) more = (0 < length w) × AllByRecursion (λ b. letter b ≡ true) w
 Fair (numeric ds) more = Longest ds more
 Fair (punct c) more = mark c ≡ true
 
@@ -39,8 +39,8 @@ layout (l ∷ ls) last = l.gap ++ (written l.piece ++ layout ls last)
 
 -- the gaps are white, and the pieces may stand where they are
 abbrev pub Lays : List Laid → List ℕ → Type 0
-Lays [] last = All (λ b. white b ≡ true) last
-Lays (l ∷ ls) last = All (λ b. white b ≡ true) l.gap × Fair l.piece (layout ls last) × Lays ls last
+Lays [] last = AllByRecursion (λ b. white b ≡ true) last
+Lays (l ∷ ls) last = AllByRecursion (λ b. white b ≡ true) l.gap × Fair l.piece (layout ls last) × Lays ls last
 
 -- the tokens of that text, which begins at place p
 abbrev pub tokens_of : List Laid → List ℕ → ℕ → Ahead

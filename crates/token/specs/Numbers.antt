@@ -1,12 +1,12 @@
 -- The numbers of JSON, by their parts.
 use Rattle.std.specs.Prelude.{◌≡◌, ℕ, ◌<◌, ◌≤◌, true, ◌⊎◌, List, [], ◌∷◌, ◌++◌, length, ◌≢◌}
-use Rattle.std.specs.List.{AllByRecursion as All}
+use Rattle.std.specs.List.{AllByRecursion}
 use Rattle.token.specs.Bytes.{digit}
 use Rattle.token.specs.Lex.{front}
 
 -- one digit or more
 abbrev pub Digits : List ℕ → Type 0
-Digits ds = (0 < length ds) × All (λ b. digit b ≡ true) ds
+Digits ds = (0 < length ds) × AllByRecursion (λ b. digit b ≡ true) ds
 
 -- `-` or nothing
 abbrev pub Minus : List ℕ → Type 0
