@@ -17,8 +17,8 @@ WORD = re.compile(r"(?<!\bc\.)(?<!\bgoal\.)(?<![^\s(){}.;,\"@«»\[\]])[^\s(){}.
 SIGNATURE = re.compile(r"^\s*(?:abbrev |unfoldable |pub |data |record )*([^\s(){}.;,\"@«»]+)(?:\s+[({][^:]*)?\s*:\s")
 ALIAS = re.compile(r" as ([^\s(){}.;,\"@«»]+)[,}]")
 HEAD = re.compile(r"^\s*(?:pub )?(?:data|record) ([^\s(){}.;,\"@«»]+)")
-# a name that would fall together with another one, and what it is called in its place
-OTHERWISE = {}
+# names that the kit's script took for facts
+OTHERWISE = {"entry_IsPlace": "entry_place", "Placed-of": "placed_of", "PlacedOf": "placed_of"}
 
 
 def files(root):

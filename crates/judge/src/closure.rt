@@ -1,7 +1,7 @@
 // Whether a table is closed, and the first place at which it is not.
 
 ghost use Rattle.std.specs.Prelude.{◌≡◌, ◌<◌, ◌≤◌, length};
-ghost use Rattle.judge.specs.Judged.{time_closed, action_closed, rule_closed, rules_fault, any_within, pushes as pushing, opens_by, opens as opening, pop_closed, return_closed, pops_fault, return_fault, returns_fault, entry_fault, closure_fault, at_entry as entry_IsPlace, at_rule as rule_place, at_return as return_place};
+ghost use Rattle.judge.specs.Judged.{time_closed, action_closed, rule_closed, rules_fault, any_within, pushes as pushing, opens_by, opens as opening, pop_closed, return_closed, pops_fault, return_fault, returns_fault, entry_fault, closure_fault, at_entry as entry_place, at_rule as rule_place, at_return as return_place};
 ghost use Rattle.judge.specs.Judgings.{claim_of};
 ghost use Rattle.judge.specs.Marks.{Marked, Rooted};
 
@@ -15,7 +15,7 @@ use fault::Place;
 
 // The place of an entry by itself.
 pub(crate) fn at_entry(k: usize) -> Place
-    ensures { result ≡ entry_IsPlace k }
+    ensures { result ≡ entry_place k }
 {
     Place::Table {
         entry: k as u64,

@@ -10,7 +10,7 @@ ghost use Rattle.ranking.specs.Items.{none, places, with_items, ceiling as ceili
 ghost use Rattle.ranking.specs.Close.{closed as closed_up};
 ghost use Rattle.ranking.specs.Joined.{same_region};
 ghost use Rattle.region.specs.Asked.{small as small_of, wholes_fit, all_empty, in_order, lawful as lawful_of, above as above_of, below as below_of, lies_in, asks as asking, clocks_of, pop_asks};
-ghost use Rattle.region.specs.Listed.{start as start_of, rounds as rounds_of, rotations as rotations_of, time as time_of, test as test_of, spread as spread_of, placed as PlacedOf, placing, doubled, keys as keys_of, fill_keys, fill as fill_of, assign as assign_of, source as source_of, opened as opened_of, push as push_of, pop as pop_of};
+ghost use Rattle.region.specs.Listed.{start as start_of, rounds as rounds_of, rotations as rotations_of, time as time_of, test as test_of, spread as spread_of, placed as placed_of, placing, doubled, keys as keys_of, fill_keys, fill as fill_of, assign as assign_of, source as source_of, opened as opened_of, push as push_of, pop as pop_of};
 ghost use Rattle.region.specs.Laws.{FramesOnce, ListsExactly, ListsNothing};
 ghost use Rattle.region.specs.Regions.{regions, covering};
 ghost use Rattle.region.specs.Owing.{lists_lawfully};
@@ -217,7 +217,7 @@ fn with_item(region: Region, place: usize, item: Item) -> Region
 
 // The region with an item at a place, closed up.
 fn placed(scope: Scope, region: Region, place: usize, item: Item) -> Region
-    ensures { result ≡ PlacedOf scope region place item }
+    ensures { result ≡ placed_of scope region place item }
 {
     closed(scope, with_item(region, place, item))
 }
