@@ -130,7 +130,7 @@ pub record Good (C : Type 0) (w : View) : Type 0 where
   pub reachable : w.standing ≡ Reachable → Reaches w.model w.model.target
   pub runs : (D : ℕ) (c : Configuration) → w.run ≡ at D c → (1 ≤ D) × Run w.model D c
 
-good_edited : (C : Type 0) (m : Automaton) → Good C (edited m)
+pub good_edited : (C : Type 0) (m : Automaton) → Good C (edited m)
 good_edited C m =
     record {
       unreachable = λ _ h. absurd (let z : ◌≡◌ {A = ℕ} 0 1 = cc in omega arith);
@@ -138,7 +138,7 @@ good_edited C m =
       runs = λ D c h. absurd (let z : ◌≡◌ {A = ℕ} 0 1 = cc in omega arith);
     }
 
-good_edit : (C : Type 0) {X : Type 0} (o : Outcome X) (m : Automaton) (w : View) → Good C w → Good C (settle o (edited m) w)
+pub good_edit : (C : Type 0) {X : Type 0} (o : Outcome X) (m : Automaton) (w : View) → Good C w → Good C (settle o (edited m) w)
 good_edit C (accepted x) m w g = good_edited C m
 good_edit C (refused n l p) m w g = g
 
@@ -163,7 +163,7 @@ good_move : (C : Type 0) (o : Outcome (Unit {0})) (w : View) (D : ℕ) (c : Conf
 good_move C (accepted u) w D c g f = let (one, r) = f refl in good_moved C w D c g one r
 good_move C (refused n l p) w D c g f = g
 
-good_delay : (C : Type 0) (d : ℕ) (w : View) → Good C w → (u : Running) → w.run ≡ u → Good C (delayed d w u)
+pub good_delay : (C : Type 0) (d : ℕ) (w : View) → Good C w → (u : Running) → w.run ≡ u → Good C (delayed d w u)
 good_delay C d w g idle e = g
 good_delay C d w g (at D b) e =
     let (one, r) = g.runs D b e in
@@ -175,16 +175,16 @@ good_fire C v w k r i g (at D b) e =
     let (one, x) = g.runs D b e in
     good_move C (fire_check D b r v) w D (fired r.action r.to v b) g (λ h. (one, stepped x (fires r (k, nth_sits w.model.rules k r i) v (checked D v b r h).0)))
 
-good_rule : (C : Type 0) (v : ℕ) (w : View) (k : ℕ) (m : Option Rule) → slice_get w.model.rules k ≡ m → Good C w → Good C (fired_rule m v w)
+pub good_rule : (C : Type 0) (v : ℕ) (w : View) (k : ℕ) (m : Option Rule) → slice_get w.model.rules k ≡ m → Good C w → Good C (fired_rule m v w)
 good_rule C v w k None i g = g
 good_rule C v w k (Some r) i g = good_fire C v w k r i g w.run refl
 
-good_begin : (C : Type 0) (D : ℕ) (w : View) → Good C w → Good C (begin_after D w)
+pub good_begin : (C : Type 0) (D : ℕ) (w : View) → Good C w → Good C (begin_after D w)
 good_begin C D w g =
     good_move C (begin_check D) w D (start_of w.model) g
     (λ h. (leb-true 1 D (and_parts (leb 1 D) _ (passed (leb 1 D && leb D 1000000) 11 done tt h).0).0, begun (refl, refl, refl)))
 
-good_judged : (C : Type 0) (o : Outcome (Unit {0})) (w : View) → Good C w → (o ≡ done → C → Reaches w.model w.model.target → ⊥) → Good C (judge_view o w)
+pub good_judged : (C : Type 0) (o : Outcome (Unit {0})) (w : View) → Good C w → (o ≡ done → C → Reaches w.model w.model.target → ⊥) → Good C (judge_view o w)
 good_judged C (accepted u) w g k =
     record {
       unreachable = λ c h. k refl c;
@@ -211,11 +211,11 @@ edited_model : {X : Type 0} (o : Outcome X) (m : Automaton) (w : View) → (sett
 edited_model (accepted x) m w = refl
 edited_model (refused n l p) m w = refl
 
-moved_model : (o : Outcome (Unit {0})) (w : View) (D : ℕ) (c : Configuration) → (settle o (moved w D c) w).model ≡ w.model
+pub moved_model : (o : Outcome (Unit {0})) (w : View) (D : ℕ) (c : Configuration) → (settle o (moved w D c) w).model ≡ w.model
 moved_model (accepted u) w D c = refl
 moved_model (refused n l p) w D c = refl
 
-delayed_model : (d : ℕ) (w : View) (u : Running) → (delayed d w u).model ≡ w.model
+pub delayed_model : (d : ℕ) (w : View) (u : Running) → (delayed d w u).model ≡ w.model
 delayed_model d w idle = refl
 delayed_model d w (at D b) = moved_model (delay_check d b) w D (waited d b)
 
@@ -223,11 +223,11 @@ fired_run_model : (r : Rule) (v : ℕ) (w : View) (u : Running) → (fired_run r
 fired_run_model r v w idle = refl
 fired_run_model r v w (at D b) = moved_model (fire_check D b r v) w D (fired r.action r.to v b)
 
-fired_model : (m : Option Rule) (v : ℕ) (w : View) → (fired_rule m v w).model ≡ w.model
+pub fired_model : (m : Option Rule) (v : ℕ) (w : View) → (fired_rule m v w).model ≡ w.model
 fired_model None v w = refl
 fired_model (Some r) v w = fired_run_model r v w w.run
 
-judged_model : (o : Outcome (Unit {0})) (w : View) → (judge_view o w).model ≡ w.model
+pub judged_model : (o : Outcome (Unit {0})) (w : View) → (judge_view o w).model ≡ w.model
 judged_model (accepted u) w = refl
 judged_model (refused n l p) w = refl
 

@@ -5,3 +5,4 @@ pub mod Verdict
 pub mod Chains
 pub mod Sound
 pub mod Settled
+pub mod Marking

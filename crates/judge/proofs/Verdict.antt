@@ -18,10 +18,11 @@ use Rattle.judge.proofs.Firsts.{first_without, none_without, closed_none, first_
 
 -- what is judged is what the law says
 
--- the root of each entry is a place of the table, once no entry is at fault
+-- the root of each entry is a place of the table and its own root, once no entry is at fault
 pub rooted_from : {S : Type 0} (z : Claim S) → lawful_fault z ≡ None → Rooted z.table
 rooted_from z h k e l i =
-    (none_without z (entry_lawful z) (LawfulEntry z) (allowing z) h e (k, (l, λ d. get_or_default z.table k d e l ∙ sym i))).rooted.0.0
+    let w = none_without z (entry_lawful z) (LawfulEntry z) (allowing z) h e (k, (l, λ d. get_or_default z.table k d e l ∙ sym i)) in
+    (w.rooted.0.0, ap (λ o. o.root) (w.rooted.0.1 e) ∙ w.rooted.1)
 
 module _ {S : Type 0} (z : Claim S) (n : ℕ) where
   Entries : Type 0

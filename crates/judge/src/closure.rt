@@ -1,9 +1,9 @@
 // Whether a table is closed, and the first place at which it is not.
 
-ghost use Rattle.std.specs.Prelude.{◌≡◌, ◌<◌, ◌≤◌, length};
-ghost use Rattle.judge.specs.Judged.{time_closed, action_closed, rule_closed, rules_fault, any_within, pushes as pushing, opens_by, opens as opening, pop_closed, return_closed, pops_fault, return_fault, returns_fault, entry_fault, closure_fault, at_entry as entry_place, at_rule as rule_place, at_return as return_place};
+ghost use Rattle.std.specs.Prelude.{◌≡◌, ◌<◌, ◌≤◌, length, slice_index_or};
+ghost use Rattle.judge.specs.Judged.{time_closed, action_closed, rule_closed, rules_fault, any_within, pop_closed, return_closed, pops_fault, return_fault, returns_fault, entry_fault, closure_fault, at_entry as entry_place, at_rule as rule_place, at_return as return_place};
 ghost use Rattle.judge.specs.Judgings.{claim_of};
-ghost use Rattle.judge.specs.Marks.{Marked, Rooted};
+ghost use Rattle.judge.specs.Marks.{hit as hitting, Hits, OpenedBy, Unmarked, Marked, Rooted, pushes_at as pushing_at, pushes_from as pushing_from};
 
 use super::entry::Entry;
 use super::judging::Judging;
@@ -43,6 +43,16 @@ fn at_return(k: usize, j: usize, n: usize) -> Place
         entry: k as u64,
         rule: n as u64,
         above: j as u64,
+    }
+}
+
+// Whether the rule is a push from the state.
+fn pushes_at(state: u64, r: Rule) -> bool
+    ensures { result ≡ pushing_at state r }
+{
+    match r.action {
+        Action::Push(_) => r.from as u64 == state,
+        _ => false,
     }
 }
 
@@ -123,67 +133,77 @@ impl<'m, 'a, 't, A: Abstraction> Judging<'m, 'a, 't, A> {
         false
     }
 
-    // Whether a push from e to the state comes to o.
-    fn pushes(
-        &self,
-        e: Entry<A::Shape>,
-        o: Entry<A::Shape>,
-        to: u64,
-        i: Interval,
-        action: Action,
-        listing: &mut Listing<A::Shape>,
-    ) -> bool
-        ensures { result ≡ pushing (claim_of A.Abstraction.answers self.now) e o to i action }
+    // Whether the entry o at the place k is a root in the state with the label, and has one of the
+    // shapes within its own.
+    fn hit(&self, to: u64, label: u64, shapes: &[A::Shape], k: usize, o: Entry<A::Shape>) -> bool
+        ensures { result ≡ hitting (claim_of A.Abstraction.answers self.now) to label shapes.now k o }
     {
-        match action {
-            Action::Push(label) => {
-                if to != o.state || label as u64 != o.label {
-                    return false;
-                }
-                self.abstraction.push(self.scope, i, e.shape, listing);
-                self.any_within(listing.shapes(), o.shape)
+        o.root == k as u64 && to == o.state && label == o.label && self.any_within(shapes, o.shape)
+    }
+
+    // Marks the roots that one of the shapes comes to, besides those that are marked.
+    fn mark_hits(&self, to: u64, label: u64, shapes: &[A::Shape], scratch: &mut [u8])
+        requires { length self.now.table.now ≤ length scratch.old }
+        ensures { Hits (claim_of A.Abstraction.answers self.now) to label shapes.now scratch.old (length self.now.table.now) scratch.new }
+    {
+        for (k, o) in self.table.iter().enumerate() {
+            if self.hit(to, label, shapes, k, *o) {
+                mark(scratch, k, true);
             }
-            _ => false,
         }
     }
 
-    fn opens_by(
+    // Marks the roots that e opens by the rule.
+    fn mark_by(
         &self,
         e: Entry<A::Shape>,
-        o: Entry<A::Shape>,
         r: Rule,
+        scratch: &mut [u8],
         listing: &mut Listing<A::Shape>,
-    ) -> bool
-        ensures { result ≡ opens_by (claim_of A.Abstraction.answers self.now) e o r }
+    )
+        requires { length self.now.table.now ≤ length scratch.old }
+        ensures { OpenedBy (claim_of A.Abstraction.answers self.now) e r scratch.old scratch.new }
     {
-        if r.from as u64 == e.state {
-            self.pushes(e, o, r.to as u64, r.interval, r.action, listing)
-        } else {
-            false
+        if r.from as u64 != e.state {
+            return;
+        }
+        if let Action::Push(label) = r.action {
+            self.abstraction
+                .push(self.scope, r.interval, e.shape, listing);
+            self.mark_hits(r.to as u64, label as u64, listing.shapes(), scratch);
         }
     }
 
-    // Whether e opens the root o.
-    fn opens(&self, e: Entry<A::Shape>, o: Entry<A::Shape>, listing: &mut Listing<A::Shape>) -> bool
-        ensures { result ≡ opening (claim_of A.Abstraction.answers self.now) e o }
+    fn clear_marks(&self, scratch: &mut [u8])
+        requires { length self.now.table.now ≤ length scratch.old }
+        ensures { Unmarked (length self.now.table.now) scratch.new }
     {
-        for r in self.rules {
-            if self.opens_by(e, o, *r, listing) {
-                return true;
-            }
+        for k in 0..self.table.len() {
+            mark(scratch, k, false);
         }
-        false
     }
 
-    // Marks the places of the entries that e opens.
+    // Marks the roots that e opens.
     fn mark_opened(&self, e: Entry<A::Shape>, scratch: &mut [u8], listing: &mut Listing<A::Shape>)
         requires { length self.now.table.now ≤ length scratch.old }
         ensures { Marked (claim_of A.Abstraction.answers self.now) e (length self.now.table.now) scratch.new }
     {
-        for (k, o) in self.table.iter().enumerate() {
-            let opened = self.opens(e, *o, listing);
-            mark(scratch, k, opened);
+        self.clear_marks(scratch);
+        for r in self.rules {
+            self.mark_by(e, *r, scratch, listing);
         }
+    }
+
+    // Whether some push leads from the state.
+    fn pushes_from(&self, state: u64) -> bool
+        ensures { result ≡ pushing_from (claim_of A.Abstraction.answers self.now) state }
+    {
+        for r in self.rules {
+            if pushes_at(state, *r) {
+                return true;
+            }
+        }
+        false
     }
 
     // Whether the shapes that a pop from u leaves on e are taken.
@@ -256,7 +276,7 @@ impl<'m, 'a, 't, A: Abstraction> Judging<'m, 'a, 't, A> {
         scratch: &[u8],
         listing: &mut Listing<A::Shape>,
     ) -> Option<Place>
-        requires { (u.root < length self.now.table.now) × ((length self.now.table.now ≤ length scratch.now) × (Marked (claim_of A.Abstraction.answers self.now) e (length self.now.table.now) scratch.now)) }
+        requires { (u.root < length self.now.table.now) × (((slice_index_or self.now.table.now u.root e).root ≡ u.root) × ((length self.now.table.now ≤ length scratch.now) × (Marked (claim_of A.Abstraction.answers self.now) e (length self.now.table.now) scratch.now))) }
         ensures { result ≡ return_fault (claim_of A.Abstraction.answers self.now) k e j u }
     {
         if marked(scratch, u.root as usize) {
@@ -303,6 +323,9 @@ impl<'m, 'a, 't, A: Abstraction> Judging<'m, 'a, 't, A> {
         let fault = self.rules_fault(k, e, listing);
         if fault.is_some() {
             return fault;
+        }
+        if !self.pushes_from(e.state) {
+            return None;
         }
         self.mark_opened(e, scratch, listing);
         self.returns_fault(k, e, scratch, listing)

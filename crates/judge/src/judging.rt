@@ -47,7 +47,8 @@ impl<'m, 'a, 't, A: Abstraction> Judging<'m, 'a, 't, A> {
     {
         'search: for s in shapes {
             for (k, e) in self.table.iter().enumerate() {
-                if self.takes(w, *s, k, e) {
+                // Most entries are in another state.
+                if e.state == w.state && self.takes(w, *s, k, e) {
                     continue 'search;
                 }
             }

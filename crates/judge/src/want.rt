@@ -46,10 +46,11 @@ impl Want {
     pub(crate) fn fits<S: Copy>(self, k: usize, e: &Entry<S>) -> bool
         ensures { result ≡ wanted self k e.now }
     {
-        let rooted = match self.root {
-            Root::Same(root) => e.root == root,
-            Root::Own => e.root == k as u64,
-        };
-        rooted && e.state == self.state && e.label == self.label
+        e.state == self.state
+            && e.label == self.label
+            && match self.root {
+                Root::Same(root) => e.root == root,
+                Root::Own => e.root == k as u64,
+            }
     }
 }

@@ -13,3 +13,4 @@ pub mod Joining
 pub mod Count
 pub mod Turning
 pub mod Law
+pub mod Passing

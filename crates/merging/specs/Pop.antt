@@ -1,4 +1,4 @@
-use Rattle.std.specs.Prelude.{ℕ, ◌+◌, ◌-◌, ◌*◌, min, Bool, cond, ◌&&◌, List, [], ◌∷◌, map, take, drop, replicate, ◌==◌, nat_le, nat_lt, slice_index, slice_index_or}
+use Rattle.std.specs.Prelude.{ℕ, ◌+◌, ◌-◌, ◌*◌, min, Bool, cond, ◌&&◌, List, [], ◌∷◌, map, get_or, take, drop, replicate, ◌==◌, nat_le, nat_lt, slice_index, slice_index_or}
 use Rattle.abstraction.specs.Lists.{all}
 use Rattle.abstraction.specs.declared.scope.Scope.{Scope}
 use Rattle.ranking.specs.declared.Item.{Item}
@@ -84,6 +84,10 @@ join_all xs (y ∷ ys) = join_all (join xs y) ys
 -- after so many rotations of the items below there are no new ones
 abbrev pub rounds : Scope → List Item → ℕ
 rounds w xs = 2 * (greatest xs + 1) * (ceiling w 0 + 2)
+
+-- the whole part of the mark below is above that of the time elapsed above; no rotation takes it back
+abbrev pub passed : Scope → List Item → List Item → Bool
+passed w xs us = nat_lt (get_or us (2 * clocks_of w + 2) none).whole (get_or xs (clocks_of w + 1) none).whole
 
 -- the mergings at the first n rotations, each once
 abbrev pub tried : ℕ → Scope → List Item → List Item → List Region → List Region

@@ -2,12 +2,12 @@
 
 // The pop of two regions: the frame above is taken away, and the frame below goes on.
 
-ghost use Rattle.std.specs.Prelude.{◌≡◌, ◌+◌, ◌*◌, ◌<◌, ◌≤◌, min, true, false, ◌&&◌, map, length, slice_index, slice_index_or, slice_set};
+ghost use Rattle.std.specs.Prelude.{◌≡◌, ◌+◌, ◌*◌, ◌<◌, ◌≤◌, min, true, false, ◌&&◌, map, length, get_or, slice_index, slice_index_or, slice_set};
 ghost use Rattle.abstraction.specs.Lists.{all};
 ghost use Rattle.abstraction.specs.Room.{shapes as shapes_of};
-ghost use Rattle.ranking.specs.Items.{none, each, places};
+ghost use Rattle.ranking.specs.Items.{none, each, places, ceiling as ceiling_of};
 ghost use Rattle.merging.specs.Ways.{alone, together, from_left, from_right, on_left, on_right, mergings};
-ghost use Rattle.merging.specs.Pop.{clocks_of, mark_item, tie as tie_at, ties_of, like as likeness, in_order, agrees, part as part_of, frame_of, join_all, finished, rekeyed, with_keys, merged, here, rounds as rounds_of, tried, pops as popping};
+ghost use Rattle.merging.specs.Pop.{clocks_of, mark_item, tie as tie_at, ties_of, like as likeness, in_order, agrees, part as part_of, frame_of, join_all, finished, rekeyed, with_keys, merged, here, rounds as rounds_of, passed as passing, tried, pops as popping};
 ghost use Rattle.merging.specs.Law.{PopLaw};
 
 use abstraction::{Listing, Scope};
@@ -340,7 +340,16 @@ fn list_here(scope: Scope, below: &[Item], above: &[Item], out: &mut Listing<Reg
     }
 }
 
-// Lists the mergings after each number of rotations of the frame below.
+// Whether the mark has come to a greater whole part than the time elapsed above has.
+fn passed(scope: Scope, below: &[Item], above: &[Item]) -> bool
+    ensures { result ≡ passing scope below.now above.now }
+{
+    let clocks = clocks_of(scope);
+    at(above, 2 * clocks + 2).whole < at(below, clocks + 1).whole
+}
+
+// Lists the mergings after each number of rotations of the frame below. Once the mark has passed the
+// time elapsed above, none are left.
 fn try_rotations(
     scope: Scope,
     rounds: usize,
@@ -348,10 +357,14 @@ fn try_rotations(
     above: &[Item],
     out: &mut Listing<Region>,
 )
-    requires { (length below.old ≡ places scope + 1) × (length above.now ≡ places scope) }
+    requires long { (length below.old ≡ places scope + 1) × (length above.now ≡ places scope) }
+    requires few { (get_or below.old (clocks_of scope + 1) none).whole ≤ ceiling_of scope (clocks_of scope + 1) + 1 }
     ensures { shapes_of out.new ≡ tried rounds scope below.old above.now (shapes_of out.old) }
 {
     for _ in 0..rounds {
+        if passed(scope, below, above) {
+            return;
+        }
         list_here(scope, below, above, out);
         rotate(below, scope);
     }

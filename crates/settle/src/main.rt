@@ -1,6 +1,5 @@
-#![tactic(auto)]
-
-// Reads a text from standard input, and prints one line for each of its objects.
+// Reads a text from standard input, and prints one line for each of its objects and for the fault that
+// ended it.
 
 ghost use Rattle.std.specs.Prelude.{◌≤◌, length, IfOk};
 

@@ -5,6 +5,7 @@ use Rattle.fault.specs.declared.Layer.{Layer}
 use Rattle.fault.specs.declared.Layer.TheVariants.{Text}
 use Rattle.fault.specs.declared.Place.{Place}
 use Rattle.fault.specs.declared.Place.TheVariants.{Byte}
+use Rattle.fault.specs.Faults.{Outcome}
 use Rattle.fault.specs.Faults.Outcome.{accepted, refused}
 use Rattle.line.specs.declared.Answer.{Answer}
 use Rattle.line.specs.declared.Answer.TheVariants.{Undecided, Reachable, Unreachable, Refused}
@@ -12,13 +13,13 @@ use Rattle.case.specs.declared.case.Standing.{Standing}
 use Rattle.case.specs.declared.case.Standing.TheVariants as standing
 use Rattle.case.specs.Views.{View}
 use Rattle.case.specs.Calls.{new_case}
-use Rattle.token.specs.Tokens.{Ahead, gives, tokens, admitted}
+use Rattle.token.specs.Tokens.{Ahead, Out, gives, denies, tokens, admitted}
 use Rattle.token.specs.Grammar.{size}
 use Rattle.text.specs.declared.asks.Ask.{Ask}
 use Rattle.text.specs.Calls.{Said, shown, said_from, case_from}
 use Rattle.text.specs.Calls.Said.{word, denied}
-use Rattle.text.specs.Records.{model_due}
-use Rattle.text.specs.Documents.{later_objects, first_object}
+use Rattle.text.specs.Records.{model_due, clocks_of}
+use Rattle.text.specs.Documents.{read, later_objects, first_said, first_object}
 use Rattle.text.proofs.Bound.{tokens_size}
 use Rattle.text.proofs.Later.{noted}
 
@@ -38,10 +39,11 @@ module _ (had : List Answer) (a : Ahead) (asks : List Ask) (b : Ahead) (e : give
   alone says n l p is = rw (← e, here says (denied n l p) is) (noted had x all put (denied n l p) is)
 
   -- taken, and the other objects follow
-  pub others : shown x ≡ said_from 0 rows w → (u : View) → u ≡ case_from rows w → (s : Standing) → shown x ≡ word s → map shown all ++ later_objects u b ≡ map shown had ++ first_object a
-  others says u to s is =
+  pub others : shown x ≡ said_from 0 rows w → (u : View) → u ≡ case_from rows w → (m : ℕ) → m ≡ clocks_of rows → (s : Standing) → shown x ≡ word s → map shown all ++ later_objects m u b ≡ map shown had ++ first_object a
+  others says u to m many s is =
       let after : case_from asks new_case ≡ u = sym (to ∙ ap (λ r. case_from r w) same ∙ ap (case_from asks) new) in
-      rw (← e, here says (word s) is, after) (ap (λ l. l ++ later_objects u b) (noted had x all put (word s) is) ∙ append_assoc (map shown had) (word s ∷ []) (later_objects u b))
+      let count : clocks_of asks ≡ m = sym (many ∙ ap clocks_of same) in
+      rw (← e, here says (word s) is, after, count) (ap (λ l. l ++ later_objects m u b) (noted had x all put (word s) is) ∙ append_assoc (map shown had) (word s ∷ []) (later_objects m u b))
 
 short_case : (text : List ℕ) (t : Bool) → leb (length text) 65536 ≡ t → (u : Unit {0}) → accepted u ≡ cond t (accepted tt) (refused 23 Text (Byte 65536)) → length text ≤ 65536
 short_case text true h u e = leb-true _ _ h

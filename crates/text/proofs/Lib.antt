@@ -1,8 +1,14 @@
-pub mod Shrinks
 pub mod Bound
-pub mod Rows
 pub mod Turns
+pub mod Going
+pub mod Items
+pub mod Chosen
 pub mod Later
 pub mod First
 pub mod Back
 pub mod Reading
+pub mod Spelled
+pub mod Ended
+pub mod Converse
+pub mod Sure
+pub mod Truthful

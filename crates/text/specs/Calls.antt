@@ -11,7 +11,11 @@ use Rattle.automaton.specs.Edits.{open_outcome, add_outcome}
 use Rattle.case.specs.declared.case.Standing.{Standing}
 use Rattle.case.specs.declared.case.Standing.TheVariants as standing
 use Rattle.case.specs.Views.{View}
-use Rattle.case.specs.Calls.{void, open_view, add_view, begin_outcome, begin_after, delay_outcome, delay_after, fire_outcome, fire_after}
+use Rattle.abstraction.specs.Owes.{Answers}
+use Rattle.judge.specs.Claims.{claim}
+use Rattle.judge.specs.Judged.{judged}
+use Rattle.judge.specs.declared.entry.Entry.{Entry}
+use Rattle.case.specs.Calls.{judge_view, void, open_view, add_view, begin_outcome, begin_after, delay_outcome, delay_after, fire_outcome, fire_after}
 use Rattle.text.specs.declared.asks.Ask.{Ask}
 use Rattle.text.specs.declared.asks.Ask.TheVariants.{Open, Add, Begin, Delay, Fire}
 
@@ -60,3 +64,28 @@ goes_on (refused n l p) later now = now
 abbrev pub case_from : List Ask → View → View
 case_from [] w = w
 case_from (c ∷ cs) w = goes_on (asked c w) (case_from cs (after c w)) (after c w)
+
+-- what an object comes to: what is said of it, and what the case then holds
+pub record Settled : Type 0 where
+  pub said : Said
+  pub view : View
+
+-- an answer, v being what the case holds
+abbrev pub come : View → Answer → Settled
+come v x = record { said = shown x; view = v }
+
+-- the calls of a model or a run
+abbrev pub performed : List Ask → View → Settled
+performed asks w = record { said = said_from 0 asks w; view = case_from asks w }
+
+-- an accepted table is answered by the standing
+abbrev pub table_said : Outcome (Unit {0}) → View → Said
+table_said (accepted u) w = word w.standing
+table_said (refused n l p) w = denied n l p
+
+abbrev pub settled_by : Outcome (Unit {0}) → View → Settled
+settled_by o w = record { said = table_said o (judge_view o w); view = judge_view o w }
+
+-- a table over an abstraction with these answers; the scratch has a byte for each of 2,048 entries
+abbrev pub judged_on : {S : Type 0} → Answers S → ℕ → List (Entry S) → View → Settled
+judged_on ans top t w = settled_by (judged (claim ans w.model top t) 2048) w

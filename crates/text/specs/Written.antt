@@ -3,12 +3,19 @@ use Rattle.std.specs.Prelude.{◌≡◌, ℕ, ◌≤◌, List, [], ◌∷◌, �
 use Rattle.std.specs.List.{AllByRecursion}
 use Rattle.automaton.specs.declared.model.Opening.{Opening}
 use Rattle.automaton.specs.declared.rule.RuleNumbers.{RuleNumbers}
+use Rattle.abstraction.specs.declared.Anything.{Anything}
+use Rattle.abstraction.specs.Untimed.{untimed}
+use Rattle.ranking.specs.declared.Item.{Item}
+use Rattle.ranking.specs.declared.Region.{Region}
+use Rattle.region.specs.Regions.{regions}
+use Rattle.judge.specs.declared.entry.Entry.{Entry}
 use Rattle.token.specs.Layout.{Piece, word, numeric, punct, Laid, layout, Lays}
 use Rattle.case.specs.Views.{View}
 use Rattle.case.specs.Calls.{new_case}
 use Rattle.text.specs.declared.asks.Ask.{Ask}
 use Rattle.text.specs.declared.asks.Ask.TheVariants.{Open, Add, Begin, Delay, Fire}
-use Rattle.text.specs.Calls.{Said, said_from, case_from}
+use Rattle.text.specs.Calls.{Said, said_from, case_from, Settled, performed, judged_on}
+use Rattle.text.specs.Records.{capped, width, region_with}
 use Rattle.text.specs.Documents.{first_said}
 
 -- a step of a run: units pass, or a rule is fired with a value
@@ -20,10 +27,28 @@ pub record Run : Type 0 where
   pub scale : ℕ
   pub steps : List Step
 
+-- an item of a region: its whole part and its rank
+pub record Part : Type 0 where
+  pub whole : ℕ
+  pub rank : ℕ
+
+-- a row of a table; over the untimed shape it has no parts
+pub record Row : Type 0 where
+  pub root : ℕ
+  pub state : ℕ
+  pub label : ℕ
+  pub parts : List Part
+
+-- an object after the first: a run, or a table with its top over one of the abstractions
+pub data Later : Type 0 where
+  ran : Run → Later
+  over_regions : ℕ → List Row → Later
+  over_untimed : ℕ → List Row → Later
+
 pub record Document : Type 0 where
   pub opening : Opening
   pub rules : List RuleNumbers
-  pub runs : List Run
+  pub later : List Later
 
 -- the calls that an object asks for
 abbrev pub step_ask : Step → Ask
@@ -36,13 +61,28 @@ model_asks o ns = Open o ∷ map Add ns
 abbrev pub run_asks : Run → List Ask
 run_asks r = Begin r.scale ∷ map step_ask r.steps
 
+-- the entry that a row stands for, in a model of n clocks
+abbrev pub part_item : Part → Item
+part_item p = record { whole = capped p.whole; rank = capped p.rank }
+
+abbrev pub region_entry : ℕ → Row → Entry Region
+region_entry n r = record { root = r.root; state = r.state; label = r.label; shape = region_with n (map part_item r.parts) }
+
+abbrev pub untimed_entry : Row → Entry Anything
+untimed_entry r = record { root = r.root; state = r.state; label = r.label; shape = record {} }
+
 -- what they come to, object by object
-abbrev pub runs_said : View → List Run → List Said
-runs_said w [] = []
-runs_said w (r ∷ rs) = said_from 0 (run_asks r) w ∷ runs_said (case_from (run_asks r) w) rs
+abbrev pub comes_to : ℕ → Later → View → Settled
+comes_to n (ran r) w = performed (run_asks r) w
+comes_to n (over_regions top rows) w = judged_on (regions (record {})) top (map (region_entry n) rows) w
+comes_to n (over_untimed top rows) w = judged_on (untimed (record {})) top (map untimed_entry rows) w
+
+abbrev pub later_said : ℕ → View → List Later → List Said
+later_said n w [] = []
+later_said n w (o ∷ os) = (comes_to n o w).said ∷ later_said n (comes_to n o w).view os
 
 abbrev pub document_said : Document → List Said
-document_said d = first_said (said_from 0 (model_asks d.opening d.rules) new_case) (runs_said (case_from (model_asks d.opening d.rules) new_case) d.runs)
+document_said d = first_said (said_from 0 (model_asks d.opening d.rules) new_case) (later_said d.opening.clocks (case_from (model_asks d.opening d.rules) new_case) d.later)
 
 -- how each is written: a number by its decimal digits, a list in brackets with commas between
 abbrev pub amount : ℕ → Piece
@@ -69,6 +109,13 @@ abbrev pub step_pieces : Step → List Piece
 step_pieces (waits d) = punct 91 ∷ amount d ∷ punct 93 ∷ []
 step_pieces (fires k v) = punct 91 ∷ amount k ∷ punct 44 ∷ amount v ∷ punct 93 ∷ []
 
+abbrev pub parts_pieces : List Part → List Piece
+parts_pieces [] = []
+parts_pieces (p ∷ ps) = next_amount p.whole ++ (next_amount p.rank ++ parts_pieces ps)
+
+abbrev pub row_pieces : Row → List Piece
+row_pieces r = punct 91 ∷ amount r.root ∷ next_amount r.state ++ (next_amount r.label ++ (parts_pieces r.parts ++ punct 93 ∷ []))
+
 abbrev pub items_pieces : {A : Type 0} → (A → List Piece) → A → List A → List Piece
 items_pieces f v [] = f v ++ punct 93 ∷ []
 items_pieces f v (w ∷ vs) = f v ++ punct 44 ∷ items_pieces f w vs
@@ -90,14 +137,23 @@ abbrev pub model_pieces : Opening → List RuleNumbers → List Piece
 model_pieces o ns = opening_pieces o ++ rows_pieces (codes "rules") rule_pieces ns
 
 abbrev pub run_pieces : Run → List Piece
-run_pieces r = (punct 123 ∷ field_pieces (codes "scale") r.scale) ++ rows_pieces (codes "run") step_pieces r.steps
+run_pieces r = punct 123 ∷ word (codes "scale") ∷ punct 58 ∷ amount r.scale ∷ rows_pieces (codes "run") step_pieces r.steps
 
-abbrev pub runs_pieces : List Run → List Piece
-runs_pieces [] = punct 93 ∷ []
-runs_pieces (r ∷ rs) = punct 44 ∷ run_pieces r ++ runs_pieces rs
+-- a table over the abstraction of that name
+abbrev pub table_pieces : List ℕ → ℕ → List Row → List Piece
+table_pieces kind top rows = punct 123 ∷ word (codes "top") ∷ punct 58 ∷ amount top ∷ punct 44 ∷ word (codes "abstraction") ∷ punct 58 ∷ word kind ∷ rows_pieces (codes "table") row_pieces rows
+
+abbrev pub object_pieces : Later → List Piece
+object_pieces (ran r) = run_pieces r
+object_pieces (over_regions top rows) = table_pieces (codes "regions") top rows
+object_pieces (over_untimed top rows) = table_pieces (codes "untimed") top rows
+
+abbrev pub later_pieces : List Later → List Piece
+later_pieces [] = punct 93 ∷ []
+later_pieces (o ∷ os) = punct 44 ∷ object_pieces o ++ later_pieces os
 
 abbrev pub document_pieces : Document → List Piece
-document_pieces d = punct 91 ∷ model_pieces d.opening d.rules ++ runs_pieces d.runs
+document_pieces d = punct 91 ∷ model_pieces d.opening d.rules ++ later_pieces d.later
 
 -- every number is at most 10^15
 abbrev pub Small : ℕ → Type 0
@@ -117,6 +173,23 @@ pub record SmallRun (r : Run) : Type 0 where
   pub scale : Small r.scale
   pub steps : AllByRecursion SmallStep r.steps
 
+abbrev pub SmallPart : Part → Type 0
+SmallPart p = Small p.whole × Small p.rank
+
+-- a row with so many parts
+pub record SmallRow (k : ℕ) (r : Row) : Type 0 where
+  pub root : Small r.root
+  pub state : Small r.state
+  pub label : Small r.label
+  pub many : length r.parts ≡ k
+  pub parts : AllByRecursion SmallPart r.parts
+
+-- in a model of n clocks a region has 2n + 3 parts
+abbrev pub SmallLater : ℕ → Later → Type 0
+SmallLater n (ran r) = SmallRun r
+SmallLater n (over_regions top rows) = Small top × AllByRecursion (SmallRow (width n)) rows
+SmallLater n (over_untimed top rows) = Small top × AllByRecursion (SmallRow 0) rows
+
 -- the text is the document, with any white space between its tokens
 pub record Writes (d : Document) (text : List ℕ) : Type 0 where
   pub pieces : List Laid
@@ -127,7 +200,7 @@ pub record Writes (d : Document) (text : List ℕ) : Type 0 where
   pub short : length text ≤ 65536
   pub opening : SmallOpening d.opening
   pub rules : AllByRecursion SmallRule d.rules
-  pub runs : AllByRecursion SmallRun d.runs
+  pub later : AllByRecursion (SmallLater d.opening.clocks) d.later
 
 -- however a document is laid out, what is said is what its own calls come to
 abbrev pub AsWritten : List ℕ → List Said → Type 0

@@ -3,10 +3,15 @@
 // Texts: their objects, the calls that these ask for, and what each object comes to.
 
 mod asks;
+mod desk;
 mod objects;
 mod performing;
 mod records;
+mod rows;
 mod settling;
+mod sheet;
+mod tables;
+mod words;
 mod workspace;
 
 pub use asks::Ask;

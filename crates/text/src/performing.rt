@@ -1,14 +1,16 @@
 // The calls of an object, made on a case.
 
-ghost use Rattle.std.specs.Prelude.{◌≡◌};
+ghost use Rattle.std.specs.Prelude.{◌≡◌, ◌≤◌};
 ghost use Rattle.fault.specs.Faults.{outcome, number, layer};
 ghost use Rattle.fault.specs.declared.Place.TheVariants.{Row};
 ghost use Rattle.case.specs.Views.{view};
 ghost use Rattle.case.specs.Calls.{void, new_case};
-ghost use Rattle.text.specs.Calls.{shown, asked, after, said_from, case_from};
+ghost use Rattle.text.specs.Calls.{shown, come, asked, after, said_from, case_from, judged_on};
 ghost use Rattle.text.specs.Calls.Said.{word, denied};
 
 use crate::asks::Ask;
+use crate::sheet::Sheet;
+use abstraction::Abstraction;
 use automaton::Opening;
 use case::{Case, Standing};
 use fault::{Fault, Place};
@@ -70,6 +72,27 @@ pub(crate) fn perform(case: &mut Case, asks: &[Ask]) -> Answer
         }
     }
     stands(case.standing())
+}
+
+// Judges the table that the sheet holds. An accepted one is answered by the standing.
+pub(crate) fn verdict<A: Abstraction>(
+    case: &mut Case,
+    abstraction: &A,
+    top: u64,
+    sheet: &mut Sheet<A::Shape>,
+) -> Answer
+    ensures { come (view case.new) result ≡ judged_on (A.Abstraction.answers abstraction.now) top sheet.old.entries.items (view case.old) }
+{
+    match case.judge(
+        abstraction,
+        &sheet.entries,
+        top,
+        &mut sheet.scratch,
+        &mut sheet.listing,
+    ) {
+        Ok(()) => stands(case.standing()),
+        Err(fault) => Answer::Refused(fault),
+    }
 }
 
 // Makes the case new: whatever it held is gone.

@@ -1,12 +1,14 @@
-// The objects of a text, read as the calls that they ask for. Each function passes the tokens that
+// Models and runs, read as the calls that they ask for. Each function passes the tokens that
 // it reads, and refuses the first that is not due.
 
-ghost use Rattle.std.specs.Prelude.{◌≡◌, ◌+◌, ◌≤◌, vec_len, vec_capacity};
+ghost use Rattle.std.specs.Prelude.{◌≡◌, ◌+◌, ◌≤◌, [], ◌∷◌, vec_capacity};
 ghost use Rattle.token.specs.Tokens.{at, out};
 ghost use Rattle.token.specs.Grammar.{size};
-ghost use Rattle.text.specs.Records.{field_due, next_field_due, next_number_due, opening_due, rule_due, step_due, row_due, list_due, rows_due, object_due, model_due, scale_due, run_due};
+ghost use Rattle.text.specs.Records.{field_due, next_field_due, next_number_due, opening_due, rule_due, step_due, row_due, rest_due, model_due, run_due, clocks_of};
+ghost use Rattle.text.specs.Shrinks.{row_falls};
 
 use crate::asks::{Ask, Kind};
+use crate::rows::{Rows, rest};
 use automaton::{Opening, RuleNumbers};
 use fault::Fault;
 use token::Reader;
@@ -26,7 +28,7 @@ fn next_field(reader: &mut Reader<'_>, word: &[u8]) -> Result<u64, Fault>
     field(reader, word)
 }
 
-fn next_number(reader: &mut Reader<'_>) -> Result<u64, Fault>
+pub(crate) fn next_number(reader: &mut Reader<'_>) -> Result<u64, Fault>
     ensures { out (λ n. n) result (at reader.new) ≡ next_number_due (at reader.old) }
 {
     reader.mark(',')?;
@@ -92,45 +94,23 @@ fn step_row(reader: &mut Reader<'_>) -> Result<Ask, Fault>
     Ok(Ask::Fire(first, value))
 }
 
-fn row(reader: &mut Reader<'_>, kind: Kind) -> Result<Ask, Fault>
-    ensures { out (λ s. s) result (at reader.new) ≡ row_due kind (at reader.old) }
-{
-    match kind {
-        Kind::Rules => Ok(Ask::Add(rule_row(reader)?)),
-        Kind::Steps => step_row(reader),
-    }
-}
+impl Rows for Kind {
+    type Row = Ask;
 
-// One row or more, up to the end of their list. They come after the rows that are held.
-fn rows_on(reader: &mut Reader<'_>, kind: Kind, rows: &mut Vec<Ask>) -> Result<(), Fault>
-    requires { vec_len rows.old + size (at reader.old) ≤ vec_capacity rows.old }
-    ensures reads { out (λ _. rows.new.items) result (at reader.new) ≡ list_due (row_due kind) rows.old.items (at reader.old) }
-    ensures room { vec_capacity rows.new ≡ vec_capacity rows.old }
-{
-    loop {
-        let ask = row(reader, kind)?;
-        rows.push_reserved(ask);
-        if !reader.comma(']')? {
-            return Ok(());
+    ghost due = { row_due };
+
+    ghost falls = { row_falls };
+
+    fn row(&self, reader: &mut Reader<'_>) -> Result<Ask, Fault> {
+        match self {
+            Kind::Rules => Ok(Ask::Add(rule_row(reader)?)),
+            Kind::Steps => step_row(reader),
         }
     }
 }
 
-// A list of rows, which may be empty.
-fn list(reader: &mut Reader<'_>, kind: Kind, rows: &mut Vec<Ask>) -> Result<(), Fault>
-    requires { vec_len rows.old + size (at reader.old) ≤ vec_capacity rows.old }
-    ensures reads { out (λ _. rows.new.items) result (at reader.new) ≡ rows_due kind rows.old.items (at reader.old) }
-    ensures room { vec_capacity rows.new ≡ vec_capacity rows.old }
-{
-    reader.mark('[')?;
-    if reader.passes(']') {
-        return Ok(());
-    }
-    rows_on(reader, kind, rows)
-}
-
-// The head is row 0, and the rows of its list follow; the object's brace closes it.
-fn object(
+// The first call, and the rows of an object's list after it.
+fn calls(
     reader: &mut Reader<'_>,
     head: Ask,
     word: &[u8],
@@ -138,15 +118,12 @@ fn object(
     rows: &mut Vec<Ask>,
 ) -> Result<(), Fault>
     requires { 1 + size (at reader.old) ≤ vec_capacity rows.old }
-    ensures reads { out (λ _. rows.new.items) result (at reader.new) ≡ object_due head word.now kind (at reader.old) }
+    ensures reads { out (λ _. rows.new.items) result (at reader.new) ≡ rest_due (row_due kind) word.now (head ∷ []) (at reader.old) }
     ensures room { vec_capacity rows.new ≡ vec_capacity rows.old }
 {
     rows.clear();
     rows.push_reserved(head);
-    reader.mark(',')?;
-    reader.member(word)?;
-    list(reader, kind, rows)?;
-    reader.mark('}')
+    rest(reader, word, &kind, rows)
 }
 
 // The first object: a model and its rules.
@@ -156,23 +133,26 @@ pub(crate) fn model(reader: &mut Reader<'_>, rows: &mut Vec<Ask>) -> Result<(), 
     ensures room { vec_capacity rows.new ≡ vec_capacity rows.old }
 {
     let opening = opening(reader)?;
-    object(reader, Ask::Open(opening), b"rules", Kind::Rules, rows)
+    calls(reader, Ask::Open(opening), b"rules", Kind::Rules, rows)
 }
 
-// The scale, which is the first member of a run.
-fn scale(reader: &mut Reader<'_>) -> Result<u64, Fault>
-    ensures { out (λ n. n) result (at reader.new) ≡ scale_due (at reader.old) }
+// How many clocks a model's first call asks for.
+pub(crate) fn clocks(rows: &[Ask]) -> u64
+    ensures { result ≡ clocks_of rows.now }
 {
-    reader.mark('{')?;
-    field(reader, b"scale")
+    match rows {
+        [Ask::Open(opening), ..] => opening.clocks,
+        _ => 0,
+    }
 }
 
-// A later object: its first member's name says what it is. So far there are runs only.
+// A run, after the name of its first member.
 pub(crate) fn run(reader: &mut Reader<'_>, rows: &mut Vec<Ask>) -> Result<(), Fault>
     requires { size (at reader.old) ≤ vec_capacity rows.old }
     ensures reads { out (λ _. rows.new.items) result (at reader.new) ≡ run_due (at reader.old) }
     ensures room { vec_capacity rows.new ≡ vec_capacity rows.old }
 {
-    let scale = scale(reader)?;
-    object(reader, Ask::Begin(scale), b"run", Kind::Steps, rows)
+    reader.mark(':')?;
+    let scale = reader.number()?;
+    calls(reader, Ask::Begin(scale), b"run", Kind::Steps, rows)
 }

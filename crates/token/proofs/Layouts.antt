@@ -20,7 +20,7 @@ name_word w more some all =
     rw (run, long, one-add, drop_at w (34 ∷ more) (length w) refl)
 
 -- the bytes of a piece before others: how long the token is, and which
-record Stands (k : Piece) (more : List ℕ) : Type 0 where
+pub record Stands (k : Piece) (more : List ℕ) : Type 0 where
   pub some : 0 < length (written k)
   pub dark : white (front (written k ++ more)) ≡ false
   pub long : token_len (written k ++ more) ≡ length (written k)
@@ -94,7 +94,7 @@ stands_punct c more h = record {
   same = λ p. rw h;
 }
 
-stands : (k : Piece) (more : List ℕ) → Fair k more → Stands k more
+pub stands : (k : Piece) (more : List ℕ) → Fair k more → Stands k more
 stands (word w) more h = stands_word w more h
 stands (numeric ds) more h = stands_numeric ds more h
 stands (punct c) more h = stands_punct c more h
@@ -107,7 +107,7 @@ reads_back [] last p h =
 reads_back (l ∷ ls) last p h = goes_on l.piece (layout ls last) (stands _ _ h.1) l.gap p h.0 ∙ ap (token (tok l.piece (p + length l.gap))) (reads_back ls last _ h.2)
 
 -- where a token stands, the bytes begin with a piece
-record Begins (bs : List ℕ) : Type 0 where
+pub record Begins (bs : List ℕ) : Type 0 where
   pub piece : Piece
   pub more : List ℕ
   pub fair : Fair piece more
@@ -138,14 +138,14 @@ begins_case (b ∷ bs) true u e h = record { piece = punct b; more = bs; fair = 
 begins_case bs false true e h = begins_name bs h
 begins_case bs false false e h = let c = number_cut bs h in record { piece = numeric c.piece; more = c.more; fair = cut_longest bs c; parts = c.parts }
 
-begins : (bs : List ℕ) → 0 < token_len bs → Begins bs
+pub begins : (bs : List ℕ) → 0 < token_len bs → Begins bs
 unfolding token_len
 begins bs h = begins_case bs (mark (front bs)) (eqb (front bs) 34) refl h
 
-begins_long : (bs : List ℕ) (g : Begins bs) → token_len bs ≡ length (written g.piece)
+pub begins_long : (bs : List ℕ) (g : Begins bs) → token_len bs ≡ length (written g.piece)
 begins_long bs g = ap token_len g.parts ∙ (stands g.piece g.more g.fair).long
 
-begins_rest : (bs : List ℕ) (g : Begins bs) → drop (token_len bs) bs ≡ g.more
+pub begins_rest : (bs : List ℕ) (g : Begins bs) → drop (token_len bs) bs ≡ g.more
 begins_rest bs g = ap (drop (token_len bs)) g.parts ∙ drop_at (written g.piece) g.more (token_len bs) (sym (begins_long bs g))
 
 -- one piece more before a text that is laid out

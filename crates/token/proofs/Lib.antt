@@ -4,3 +4,4 @@ pub mod Numbers
 pub mod Longest
 pub mod Layouts
 pub mod Values
+pub mod Proper

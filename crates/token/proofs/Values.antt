@@ -108,14 +108,14 @@ fit_plain ds q n b c (Some v) is e h =
     record { place = q; after = c; stands = ap (λ l. token (number l q) c) w.0; small = w.1 }
 fit_plain ds q n b c None is e h = let z : ◌≡◌ {A = ℕ} 0 1 = cc in absurd (omega arith)
 
-due_plain : (a b : Ahead) (n : ℕ) → ((ds : List ℕ) (q : ℕ) (c : Ahead) → a ≡ token (number ds q) c → Number ds) → gives n b ≡ number_due a → Plain a n
+pub due_plain : (a b : Ahead) (n : ℕ) → ((ds : List ℕ) (q : ℕ) (c : Ahead) → a ≡ token (number ds q) c → Number ds) → gives n b ≡ number_due a → Plain a n
 due_plain (token (name w p) c) b n is h = let z : ◌≡◌ {A = ℕ} 0 1 = cc in absurd (omega arith)
 due_plain (token (number ds q) c) b n is h = fit_plain ds q n b c (numeral 0 ds) (is ds q c refl) refl h
 due_plain (token (sign w p) c) b n is h = let z : ◌≡◌ {A = ℕ} 0 1 = cc in absurd (omega arith)
 due_plain (end p) b n is h = let z : ◌≡◌ {A = ℕ} 0 1 = cc in absurd (omega arith)
 due_plain (none p) b n is h = let z : ◌≡◌ {A = ℕ} 0 1 = cc in absurd (omega arith)
 
-plain_due : (a : Ahead) (n : ℕ) (p : Plain a n) → number_due a ≡ gives n p.after
+pub plain_due : (a : Ahead) (n : ℕ) (p : Plain a n) → number_due a ≡ gives n p.after
 plain_due a n p = rw (p.stands, numeral_whole n p.small)
 
 pub reads_plain : (bs : List ℕ) (p : ℕ) (r : Result ℕ Fault) (b : Ahead) → out (λ n. n) r b ≡ number_due (ahead 0 bs p) → ReadsPlain (ahead 0 bs p) r

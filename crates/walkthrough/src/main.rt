@@ -4,96 +4,24 @@
 // delegates further, and every open delegation has to be signed within a day. Can it come to a
 // payment without the second signature?
 
-use automaton::{Opening, RuleNumbers};
+use abstraction::Listing;
+use automaton::Model;
 use case::{Case, Standing};
-use fault::Fault;
+use judge::Entry;
+use ranking::Region;
+use region::Regions;
+use std::alloc::{AllocError, Global};
 use std::io;
+use tell::{tell_answer, tell_refusal, tell_standing, tell_step, word};
 
-// What each rule of the flow says, by its place.
-const SAYS: [&str; 7] = [
-    "the approver delegates",
-    "the delegate delegates further",
-    "the last delegate signs within a day",
-    "the one above signs within a day",
-    "it is paid within a day of the draft",
-    "a delegation is handed back after more than a day",
-    "it is paid unsigned within a day of the draft",
-];
+mod flow;
+mod grow;
+mod tell;
 
-const NUMBERS: [[u64; 8]; 7] = [
-    [0, 1, 3, 1, 0, 0, 0, 0],
-    [1, 1, 3, 1, 0, 0, 0, 0],
-    [1, 2, 4, 1, 0, 0, 1, 0],
-    [2, 2, 4, 1, 0, 0, 1, 0],
-    [2, 5, 1, 0, 0, 0, 1, 0],
-    [1, 3, 4, 1, 1, 1, 0, 2],
-    [3, 4, 1, 0, 0, 0, 1, 0],
-];
-
-fn state_name(state: u8) -> &'static str {
-    match state {
-        0 => "drafted",
-        1 => "delegated",
-        2 => "signing",
-        3 => "expired",
-        4 => "paid without the second signature",
-        _ => "paid",
-    }
-}
-
-fn numbers(row: [u64; 8]) -> RuleNumbers {
-    RuleNumbers {
-        from: row[0],
-        to: row[1],
-        kind: row[2],
-        argument: row[3],
-        lower: row[4],
-        lower_flag: row[5],
-        upper: row[6],
-        upper_flag: row[7],
-    }
-}
-
-fn tell_refusal(rt: &HostRuntime, fault: Fault) -> io::Result<()> {
-    let n = fault.refusal.number();
-    match n {
-        12 => println!(rt; "  refused by {n}: there is no run"),
-        17 => println!(rt; "  refused by {n}: outside the interval"),
-        _ => println!(rt; "  refused by {n}"),
-    }
-}
-
-fn tell_edit(rt: &HostRuntime, r: Result<(), Fault>) -> io::Result<()> {
-    match r {
-        Ok(()) => Ok(()),
-        Err(fault) => tell_refusal(rt, fault),
-    }
-}
-
-fn tell_step(rt: &HostRuntime, r: Result<u8, Fault>) -> io::Result<()> {
-    match r {
-        Ok(state) => {
-            let name = state_name(state);
-            println!(rt; "  now {name}")
-        }
-        Err(fault) => tell_refusal(rt, fault),
-    }
-}
-
-fn tell_standing(rt: &HostRuntime, case: &Case) -> io::Result<()> {
-    match case.standing() {
-        Standing::Undecided => println!(rt; "The case is undecided."),
-        Standing::Reachable => println!(rt; "The target is reachable."),
-        Standing::Unreachable => println!(rt; "The target is unreachable."),
-    }
-}
-
-fn fire(rt: &HostRuntime, case: &mut Case, place: usize) -> io::Result<()> {
-    if place < 7 {
-        let says = SAYS[place];
-        println!(rt; "- {says}")?;
-    }
-    tell_step(rt, case.fire(place as u64, 0))
+fn fire(rt: &HostRuntime, case: &mut Case, rule: u64) -> io::Result<()> {
+    let says = flow::says(rule);
+    println!(rt; "- {says}")?;
+    tell_step(rt, case.fire(rule, 0))
 }
 
 fn delay(rt: &HostRuntime, case: &mut Case, hours: u64) -> io::Result<()> {
@@ -105,38 +33,35 @@ fn draw(rt: &HostRuntime, case: &mut Case) -> io::Result<()> {
     println!(rt;
         "The flow: six states, one label for an open delegation, one clock since the draft."
     )?;
-    let opening = Opening {
-        states: 6,
-        start: 0,
-        target: 4,
-        labels: 1,
-        clocks: 1,
-    };
-    tell_edit(rt, case.open(opening))?;
-    for row in NUMBERS {
-        tell_edit(rt, case.add(numbers(row)))?;
+    if let Err(fault) = case.open(flow::OPENING) {
+        tell_refusal(rt, fault)?;
+    }
+    for row in flow::rules() {
+        if let Err(fault) = case.add(row) {
+            tell_refusal(rt, fault)?;
+        }
     }
     println!(rt; "Seven rules are drawn; the target is: paid without the second signature.")?;
     println!(rt; "A rule that names a second clock is not taken up:")?;
-    tell_edit(rt, case.add(numbers([0, 0, 1, 1, 0, 0, 1, 0])))?;
+    tell_answer(rt, case.add(flow::of_a_second_clock()))?;
     tell_standing(rt, case)
 }
 
 fn refused_run(rt: &HostRuntime, case: &mut Case) -> io::Result<()> {
-    println!(rt; "A run in hours that lets a delegation expire:")?;
+    println!(rt; "\nA run in hours that lets a delegation expire:")?;
     tell_step(rt, case.begin(24))?;
     fire(rt, case, 0)?;
     delay(rt, case, 25)?;
     fire(rt, case, 5)?;
     fire(rt, case, 6)?;
-    println!(rt; "The refused step changed nothing, and the run goes on:")?;
-    delay(rt, case, 1)?;
+    println!(rt; "The refused step changed nothing; the run stands where it stood:")?;
+    delay(rt, case, 0)?;
     tell_standing(rt, case)
 }
 
-fn legal_run(rt: &HostRuntime, case: &mut Case, paid: u64) -> io::Result<()> {
-    println!(rt; "The same flow asked whether it can be paid in time, by a run:")?;
-    tell_edit(rt, case.retarget(paid))?;
+fn legal_run(rt: &HostRuntime, case: &mut Case) -> io::Result<Standing> {
+    println!(rt; "\nThe same flow asked whether it can be paid in time, by a run:")?;
+    tell_answer(rt, case.retarget(flow::PAID))?;
     tell_step(rt, case.begin(24))?;
     fire(rt, case, 0)?;
     delay(rt, case, 3)?;
@@ -145,28 +70,112 @@ fn legal_run(rt: &HostRuntime, case: &mut Case, paid: u64) -> io::Result<()> {
     fire(rt, case, 2)?;
     fire(rt, case, 3)?;
     fire(rt, case, 4)?;
+    tell_standing(rt, case)?;
+    Ok(case.standing())
+}
+
+fn judge(
+    rt: &HostRuntime,
+    case: &mut Case,
+    table: &[Entry<Region>],
+    listing: &mut Listing<Region>,
+) -> io::Result<()> {
+    let mut scratch = [0u8; 2048];
+    let rows = table.len();
+    println!(rt; "- a table of {rows} rows over regions is judged")?;
+    tell_answer(
+        rt,
+        case.judge(&Regions::new(), table, 1, &mut scratch, listing),
+    )?;
     tell_standing(rt, case)
 }
 
-fn deadline(rt: &HostRuntime, case: &mut Case) -> io::Result<()> {
-    println!(rt; "A clock for a further deadline is put before the other:")?;
-    tell_edit(rt, case.insert(0))?;
+// The solver's own copy of the flow.
+fn copy_of_the_flow(heap: Global) -> Result<Model, AllocError> {
+    let mut model = Model::new(heap)?;
+    let _ = model.open(flow::OPENING);
+    for row in flow::rules() {
+        let _ = model.add(row);
+    }
+    Ok(model)
+}
+
+fn evidence(
+    rt: &HostRuntime,
+    case: &mut Case,
+    table: &[Entry<Region>],
+    listing: &mut Listing<Region>,
+) -> io::Result<Standing> {
+    println!(rt; "\nBack to the payment without the second signature:")?;
+    tell_answer(rt, case.retarget(flow::UNSIGNED))?;
+    println!(rt; "A solver grew a table. Without its last row it has a gap:")?;
+    let rows = table.len();
+    if rows > 0 {
+        judge(rt, case, &table[0..rows - 1], listing)?;
+    }
+    println!(rt; "The whole table is closed:")?;
+    judge(rt, case, table, listing)?;
+    Ok(case.standing())
+}
+
+// A clock is put before the other, and the rules go on testing the one that they tested.
+fn insertion(
+    rt: &HostRuntime,
+    case: &mut Case,
+    table: &[Entry<Region>],
+    listing: &mut Listing<Region>,
+) -> io::Result<()> {
+    println!(rt; "\nA clock for a deadline is put before the other:")?;
+    tell_answer(rt, case.insert(0))?;
     tell_standing(rt, case)?;
-    println!(rt; "The run is over:")?;
-    delay(rt, case, 1)?;
-    println!(rt; "The payment's rule still tests the clock since the draft, now the second:")?;
+    println!(rt; "The table for one clock says nothing about two:")?;
+    judge(rt, case, table, listing)?;
+    println!(rt; "A rule for drafts that sets the new clock to two days is drawn:")?;
+    tell_answer(rt, case.add(flow::setting()))?;
     tell_step(rt, case.begin(24))?;
+    println!(rt; "- the new clock is set to 48 hours")?;
+    tell_step(rt, case.fire(7, 48))?;
     fire(rt, case, 0)?;
-    delay(rt, case, 24)?;
+    delay(rt, case, 20)?;
     fire(rt, case, 2)?;
+    println!(rt; "The payment tests the clock since the draft, which is the second now:")?;
     fire(rt, case, 4)?;
-    tell_standing(rt, case)
+    println!(rt; "That rule is taken out again, and the run is over:")?;
+    tell_answer(rt, case.remove(7))?;
+    delay(rt, case, 2)
+}
+
+fn deadline(
+    rt: &HostRuntime,
+    case: &mut Case,
+    model: &mut Model,
+    listing: &mut Listing<Region>,
+) -> io::Result<Standing> {
+    println!(rt;
+        "\nA rule for the deadline: what expired is paid unsigned while the new clock is below a day."
+    )?;
+    tell_answer(rt, case.add(flow::before_the_deadline()))?;
+    let _ = model.insert(0);
+    let _ = model.add(flow::before_the_deadline());
+    println!(rt; "The solver grows a table for two clocks:")?;
+    let table = grow::grown(rt.alloc(), model, 1)?;
+    judge(rt, case, table.as_slice(), listing)?;
+    Ok(case.standing())
 }
 
 fn main(rt: HostRuntime) -> io::Result<()> {
     let mut case = Case::new(rt.alloc())?;
+    let mut listing = Listing::new(rt.alloc())?;
+    let mut model = copy_of_the_flow(rt.alloc())?;
     draw(&rt, &mut case)?;
     refused_run(&rt, &mut case)?;
-    legal_run(&rt, &mut case, 5)?;
-    deadline(&rt, &mut case)
+    let paid = word(legal_run(&rt, &mut case)?);
+    let table = grow::grown(rt.alloc(), &model, 1)?;
+    let unsigned = word(evidence(&rt, &mut case, table.as_slice(), &mut listing)?);
+    insertion(&rt, &mut case, table.as_slice(), &mut listing)?;
+    let late = word(deadline(&rt, &mut case, &mut model, &mut listing)?);
+    println!(rt; "\nWhere the questions stand:")?;
+    println!(rt; "- paid within a day of the draft: {paid}")?;
+    println!(rt; "- paid without the second signature: {unsigned}")?;
+    println!(rt; "- the same with a deadline: {late}")
 }

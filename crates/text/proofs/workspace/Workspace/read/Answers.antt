@@ -7,4 +7,4 @@ pub array-requires : goal.array-requires
 array-requires c =
     let few = few_tokens c.args.text.now _ c.in_ok-admit.ensures in
     let same = ap size c.new-reader.ensures.reads in
-    record { rows = omega (arith, few, same); answers = omega (arith, few, same, c.requires.zero) }
+    record { few = omega (arith, few, same); answers = omega (arith, few, same, c.requires.zero) }

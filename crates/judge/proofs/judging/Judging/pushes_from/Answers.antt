@@ -1,9 +1,9 @@
 use Rattle.std.proofs.Common.{rules}
-use Rattle.judge.proofs.judging.Judging.opens.Goals as goal
+use Rattle.judge.proofs.judging.Judging.pushes_from.Goals as goal
 use Rattle.abstraction.proofs.Walk.{any_on_at, any_off_at, any_end}
 
-pub returns-then-opens_by : goal.returns-then-opens_by
-returns-then-opens_by g c = search (rules, any_off_at)
+pub returns-then-pushes-at : goal.returns-then-pushes-at
+returns-then-pushes-at g c = search (rules, any_off_at)
 
 pub loop-r-preserved : goal.loop-r-preserved
 loop-r-preserved g c = search (rules, any_on_at)

@@ -1,0 +1,11 @@
+use Rattle.std.proofs.Common.{◌≡◌, None, sym, ◌∙◌, rules}
+use Rattle.judge.specs.Judged.{returns_fault}
+use Rattle.judge.specs.Judgings.{claim_of}
+use Rattle.judge.proofs.Marking.{no_returns}
+use Rattle.judge.proofs.judging.Judging.entry_fault.Goals as goal
+
+pub returns-then-not-pushes-from : goal.returns-then-not-pushes-from
+returns-then-not-pushes-from g c =
+    let z = claim_of g.A.Abstraction.answers c.args.self.now in
+    let h : returns_fault z c.args.k c.args.e ≡ None = no_returns z c.args.k c.args.e (sym c.pushes-from.ensures ∙ c.if-not-pushes-from.true) in
+    search rules
