@@ -5,7 +5,7 @@ use Rattle.std.specs.Str.{bytes_eq}
 use Rattle.std.proofs.lemmas.List.{drop-replicate}
 use Rattle.ranking.specs.declared.Item.{Item}
 use Rattle.ranking.specs.Items.{none, with_items}
-use Rattle.token.specs.Tokens.{Ahead, Out, gives}
+use Rattle.token.specs.Tokens.{Ahead, gives}
 use Rattle.text.specs.declared.words.Word.{Word}
 use Rattle.text.specs.Records.{word_of, more_items, width, region_due}
 

@@ -22,7 +22,7 @@ use Rattle.case.specs.Views.{View}
 use Rattle.case.specs.Calls.{new_case}
 use Rattle.token.specs.Tokens.{Tok, name, number, sign, Ahead, token, end, none, Out, gives, tokens}
 use Rattle.token.specs.Grammar.{then, mark_due, number_due, comma_due, mark_next, past_mark, size}
-use Rattle.token.specs.Layout.{Piece, word, punct, written, tokens_of}
+use Rattle.token.specs.Layout.{Piece, word, punct, tokens_of}
 use Rattle.token.proofs.Layouts.{as_laid_out}
 use Rattle.token.proofs.Proper.{Sound, Proper, proper}
 use Rattle.text.specs.declared.asks.Ask.{Ask}
@@ -34,8 +34,8 @@ use Rattle.text.specs.declared.words.Found.{Found}
 use Rattle.text.specs.Records.{field_due, next_field_due, opening_due, rule_due, row_due, rest_due, model_due, run_due, clocks_of, found, as_word, word_due, item_due, more_items, width, region_with, region_due, anything_due, entry_due, table_due}
 use Rattle.text.specs.Calls.{Said, asked, after, unless_refused, said_from, case_from, Settled, performed, table_said, judged_on}
 use Rattle.text.specs.Calls.Said.{word as stands, denied}
-use Rattle.text.specs.Documents.{read, at_end, run_object, table_object, chosen_table, topped_table, chosen_object, later_object, later, later_objects, first_said, first_object, document, settled_text}
-use Rattle.text.specs.Written.{waits, fires, Run, Part, Row, Later, ran, over_regions, over_untimed, Document, step_ask, model_asks, run_asks, part_item, region_entry, untimed_entry, comes_to, later_said, amount, next_amount, rule_pieces, step_pieces, parts_pieces, row_pieces, opening_pieces, rows_pieces, model_pieces, run_pieces, object_pieces, later_pieces, document_pieces, Small, SmallRule, SmallOpening, SmallStep, SmallRun, SmallPart, SmallRow, SmallLater, Writes}
+use Rattle.text.specs.Documents.{at_end, run_object, table_object, chosen_table, topped_table, chosen_object, later_object, later, later_objects, first_said, first_object, document, settled_text}
+use Rattle.text.specs.Written.{waits, fires, Part, Row, Later, ran, over_regions, over_untimed, Document, step_ask, model_asks, run_asks, part_item, region_entry, untimed_entry, comes_to, later_said, amount, next_amount, rule_pieces, step_pieces, parts_pieces, row_pieces, opening_pieces, rows_pieces, model_pieces, run_pieces, object_pieces, later_pieces, document_pieces, Small, SmallRule, SmallOpening, SmallStep, SmallRun, SmallPart, SmallRow, SmallLater, Writes}
 use Rattle.text.specs.WasWritten.{Reading, Heard, ToTheEnd, Taken, Bare, WasWritten}
 use Rattle.text.proofs.Back.{Shows}
 use Rattle.text.proofs.Reading.{laid_shows, as_written}

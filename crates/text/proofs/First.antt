@@ -5,7 +5,6 @@ use Rattle.fault.specs.declared.Layer.{Layer}
 use Rattle.fault.specs.declared.Layer.TheVariants.{Text}
 use Rattle.fault.specs.declared.Place.{Place}
 use Rattle.fault.specs.declared.Place.TheVariants.{Byte}
-use Rattle.fault.specs.Faults.{Outcome}
 use Rattle.fault.specs.Faults.Outcome.{accepted, refused}
 use Rattle.line.specs.declared.Answer.{Answer}
 use Rattle.line.specs.declared.Answer.TheVariants.{Undecided, Reachable, Unreachable, Refused}
@@ -13,13 +12,13 @@ use Rattle.case.specs.declared.case.Standing.{Standing}
 use Rattle.case.specs.declared.case.Standing.TheVariants as standing
 use Rattle.case.specs.Views.{View}
 use Rattle.case.specs.Calls.{new_case}
-use Rattle.token.specs.Tokens.{Ahead, Out, gives, denies, tokens, admitted}
+use Rattle.token.specs.Tokens.{Ahead, gives, tokens, admitted}
 use Rattle.token.specs.Grammar.{size}
 use Rattle.text.specs.declared.asks.Ask.{Ask}
 use Rattle.text.specs.Calls.{Said, shown, said_from, case_from}
 use Rattle.text.specs.Calls.Said.{word, denied}
 use Rattle.text.specs.Records.{model_due, clocks_of}
-use Rattle.text.specs.Documents.{read, later_objects, first_said, first_object}
+use Rattle.text.specs.Documents.{later_objects, first_object}
 use Rattle.text.proofs.Bound.{tokens_size}
 use Rattle.text.proofs.Later.{noted}
 

@@ -1,11 +1,10 @@
 -- Every document reads back as itself, however it is laid out.
-use Rattle.std.proofs.Common.{◌≡◌, ℕ, zero, suc, ◌+◌, ◌<◌, ◌≤◌, Bool, true, false, cond, eqb, leb, List, [], ◌∷◌, ◌++◌, map, length, Some, codes, sym, refl, ap, ◌∙◌, subst, append_assoc, arith, le-leb}
+use Rattle.std.proofs.Common.{◌≡◌, ℕ, zero, suc, ◌+◌, ◌<◌, true, false, leb, List, [], ◌∷◌, ◌++◌, map, length, Some, codes, sym, refl, ap, ◌∙◌, subst, append_assoc, arith, le-leb}
 use Rattle.std.specs.List.{AllByRecursion}
 use Rattle.std.specs.Str.{bytes_eq}
 use Rattle.std.proofs.lemmas.List.{append-nil}
 use Rattle.automaton.specs.declared.model.Opening.{Opening}
 use Rattle.automaton.specs.declared.rule.RuleNumbers.{RuleNumbers}
-use Rattle.fault.specs.Faults.Outcome.{accepted}
 use Rattle.abstraction.specs.Owes.{Answers}
 use Rattle.abstraction.specs.Untimed.{untimed}
 use Rattle.ranking.specs.declared.Item.{Item}
@@ -13,21 +12,19 @@ use Rattle.region.specs.Regions.{regions}
 use Rattle.judge.specs.declared.entry.Entry.{Entry}
 use Rattle.case.specs.Views.{View}
 use Rattle.case.specs.Calls.{new_case}
-use Rattle.token.specs.Tokens.{Tok, name, number, sign, Ahead, token, end, none, Out, gives, denies, tokens, admitted}
-use Rattle.token.specs.Grammar.{then, mark_due, number_due, comma_due, member_due, end_due, mark_next, size, Falls}
+use Rattle.token.specs.Tokens.{Ahead, end, Out, gives, tokens}
+use Rattle.token.specs.Grammar.{then, mark_due, number_due, comma_due, member_due, mark_next, size, Falls}
 use Rattle.token.specs.Falls.{comma_falls, gives_stays}
-use Rattle.token.specs.Layout.{Piece, word, numeric, punct, tok, Laid, written, tokens_of}
+use Rattle.token.specs.Layout.{Piece, word, punct, Laid, written, tokens_of}
 use Rattle.token.proofs.Layouts.{as_laid_out}
-use Rattle.text.specs.declared.asks.Ask.{Ask}
 use Rattle.text.specs.declared.asks.Ask.TheVariants.{Open, Add, Begin, Delay, Fire}
-use Rattle.text.specs.declared.asks.Kind.{Kind}
 use Rattle.text.specs.declared.asks.Kind.TheVariants.{Rules, Steps}
 use Rattle.text.specs.declared.words.Word.{Word}
 use Rattle.text.specs.declared.words.Word.TheVariants.{Scale, Top, Regions, Untimed}
-use Rattle.text.specs.Records.{field_due, next_field_due, next_number_due, opening_due, rule_due, step_due, row_due, items, list_due, rows_due, rest_due, model_due, run_due, word_of, word_due, item_due, more_items, width, region_with, region_due, anything_due, entry_due, table_due}
-use Rattle.text.specs.Calls.{Said, said_from, case_from, Settled, performed, judged_on}
-use Rattle.text.specs.Documents.{read, at_end, run_object, table_object, chosen_table, named_table, topped_table, chosen_object, later_object, later, later_objects, first_said, first_object, document, settled_text}
-use Rattle.text.specs.Written.{Step, waits, fires, Run, Part, Row, Later, ran, over_regions, over_untimed, Document, step_ask, model_asks, run_asks, part_item, region_entry, untimed_entry, comes_to, later_said, document_said, amount, next_amount, member_pieces, field_pieces, next_field_pieces, rule_pieces, step_pieces, parts_pieces, row_pieces, items_pieces, list_pieces, opening_pieces, rows_pieces, model_pieces, object_pieces, later_pieces, document_pieces, Small, SmallRule, SmallOpening, SmallStep, SmallRun, SmallPart, SmallRow, SmallLater, Writes, AsWritten}
+use Rattle.text.specs.Records.{field_due, next_field_due, next_number_due, opening_due, rule_due, step_due, row_due, items, rows_due, rest_due, model_due, run_due, word_of, word_due, item_due, more_items, width, region_with, region_due, anything_due, entry_due}
+use Rattle.text.specs.Calls.{Said, said_from, Settled, performed, judged_on}
+use Rattle.text.specs.Documents.{table_object, chosen_table, topped_table, chosen_object, later_object, later, first_said, document, settled_text}
+use Rattle.text.specs.Written.{Step, waits, fires, Run, Part, Row, Later, ran, over_regions, over_untimed, Document, step_ask, model_asks, run_asks, part_item, region_entry, untimed_entry, comes_to, later_said, document_said, amount, next_amount, member_pieces, field_pieces, next_field_pieces, rule_pieces, step_pieces, parts_pieces, row_pieces, items_pieces, list_pieces, opening_pieces, rows_pieces, model_pieces, object_pieces, later_pieces, document_pieces, Small, SmallRule, SmallOpening, SmallStep, SmallRun, SmallPart, SmallRow, SmallLater, AsWritten}
 use Rattle.text.specs.Shrinks.{row_falls, entry_falls, region_stays, object_falls}
 use Rattle.text.proofs.Back.{Shows, shows_append, Reads, reads_then, reads_gives, reads_mark, reads_name, reads_number, reads_more, reads_close}
 

@@ -1,23 +1,22 @@
 -- What is said of each object is true, and its model is still the one that was drawn.
-use Rattle.std.proofs.Common.{◌≡◌, ℕ, zero, suc, ◌+◌, ◌<◌, ◌≤◌, Bool, true, false, ◌&&◌, ltb, leb, List, [], ◌∷◌, ◌++◌, map, length, get_or, Ok, sym, refl, ap, ◌∙◌, subst, arith}
+use Rattle.std.proofs.Common.{◌≡◌, ℕ, ◌+◌, ◌≤◌, true, ◌&&◌, ltb, leb, List, [], ◌∷◌, ◌++◌, map, length, Ok, sym, refl, ap, ◌∙◌, subst, arith}
 use Rattle.std.specs.List.{AllByRecursion, slice_get}
 use Rattle.std.proofs.lemmas.Bool.{and_parts, leb-true, ltb-true}
 use Rattle.fault.specs.Faults.{Outcome}
 use Rattle.fault.specs.Faults.Outcome.{accepted, refused}
-use Rattle.abstraction.specs.Lists.{all, Sits, In}
 use Rattle.abstraction.specs.Owes.{Answers, Meaning, Lawfully, ListsLawfully, Listed, Covers}
 use Rattle.abstraction.specs.Frames.{Frame, later, assigned, pushed, popped}
 use Rattle.abstraction.specs.declared.scope.Scope.{Scope}
 use Rattle.abstraction.specs.Untimed.{untimed, everything}
 use Rattle.abstraction.specs.declared.Anything.{Anything}
 use Rattle.automaton.specs.Runs.{Automaton, Reaches}
-use Rattle.automaton.specs.Rules.{unless, read_rule, rule, written}
-use Rattle.automaton.specs.Lawful.{lawful, all_lawful, Reads}
-use Rattle.automaton.specs.Edits.{settle, done as fine_call, sizes, fresh, sizes_fit, ends_fit, open_outcome, opened, open_after, with_rules, add_outcome, FitsIn, add_after}
+use Rattle.automaton.specs.Rules.{read_rule, rule, written}
+use Rattle.automaton.specs.Lawful.{lawful, all_lawful}
+use Rattle.automaton.specs.Edits.{settle, sizes, fresh, sizes_fit, open_outcome, opened, open_after, with_rules, add_outcome, FitsIn, add_after}
 use Rattle.automaton.specs.declared.rule.Rule.{Rule}
 use Rattle.automaton.specs.declared.rule.RuleNumbers.{RuleNumbers}
 use Rattle.automaton.specs.declared.model.Opening.{Opening}
-use Rattle.automaton.proofs.Writing.{passed, same_accepted, reads}
+use Rattle.automaton.proofs.Writing.{passed, reads}
 use Rattle.automaton.proofs.Lawfully.{all_pushed}
 use Rattle.automaton.proofs.Editing.{read_fits}
 use Rattle.judge.specs.Claims.{claim}
@@ -29,13 +28,13 @@ use Rattle.region.specs.Owing.{regions_cover, lists_lawfully}
 use Rattle.case.specs.declared.case.Standing.{Standing}
 use Rattle.case.specs.declared.case.Standing.TheVariants.{Undecided, Reachable, Unreachable}
 use Rattle.case.specs.Views.{View}
-use Rattle.case.specs.Calls.{edited, new_case, judge_view, begin_check, start_of, open_view, add_view}
+use Rattle.case.specs.Calls.{edited, new_case, judge_view, begin_check, start_of}
 use Rattle.case.proofs.Past.{Good, good_edited, good_edit, good_begin, good_delay, good_rule, good_judged, moved_model, delayed_model, fired_model, judged_model}
 use Rattle.text.specs.declared.asks.Ask.{Ask}
 use Rattle.text.specs.declared.asks.Ask.TheVariants.{Open, Add, Begin, Delay, Fire}
-use Rattle.text.specs.Calls.{Said, asked, after, unless_refused, said_from, goes_on, case_from, Settled, performed, table_said, settled_by, judged_on}
+use Rattle.text.specs.Calls.{Said, asked, after, unless_refused, said_from, goes_on, case_from, Settled, table_said, judged_on}
 use Rattle.text.specs.Calls.Said.{word, denied}
-use Rattle.text.specs.Written.{Step, waits, fires, Run, Later, ran, over_regions, over_untimed, step_ask, run_asks, region_entry, untimed_entry, comes_to}
+use Rattle.text.specs.Written.{Step, waits, fires, Later, ran, over_regions, over_untimed, step_ask, run_asks, region_entry, untimed_entry, comes_to}
 
 -- what is said is true of the model m
 abbrev pub True : Automaton → Said → Type 0

@@ -1,11 +1,11 @@
 -- What is said of a text is true of the model in its first object.
-use Rattle.std.proofs.Common.{◌≡◌, ℕ, zero, suc, ◌+◌, ◌<◌, Bool, true, false, cond, List, [], ◌∷◌, ◌++◌, map, length, get_or, sym, refl, ap, ◌∙◌, subst, append_assoc, le_of_suc-le-suc, not-suc-le-zero, arith}
+use Rattle.std.proofs.Common.{◌≡◌, ℕ, zero, suc, ◌+◌, Bool, true, false, cond, List, [], ◌∷◌, ◌++◌, map, sym, refl, ap, ◌∙◌, subst, append_assoc, le_of_suc-le-suc, not-suc-le-zero, arith}
 use Rattle.std.specs.List.{AllByRecursion}
 use Rattle.std.proofs.lemmas.List.{append-nil, map_push}
 use Rattle.fault.specs.Faults.{Outcome}
 use Rattle.fault.specs.Faults.Outcome.{accepted, refused}
-use Rattle.abstraction.specs.Lists.{Sits, In}
-use Rattle.automaton.specs.Runs.{Automaton, Reaches}
+use Rattle.abstraction.specs.Lists.{Sits}
+use Rattle.automaton.specs.Runs.{Automaton}
 use Rattle.automaton.specs.Rules.{rule, written}
 use Rattle.automaton.specs.Edits.{settle, opened, open_outcome, with_rules, add_outcome}
 use Rattle.automaton.specs.declared.rule.Rule.{Rule}
@@ -21,9 +21,9 @@ use Rattle.token.specs.Layout.{Piece, punct, tokens_of}
 use Rattle.token.proofs.Layouts.{as_laid_out}
 use Rattle.token.proofs.Proper.{Proper, proper}
 use Rattle.text.specs.declared.asks.Ask.{Ask}
-use Rattle.text.specs.declared.asks.Ask.TheVariants.{Open, Add}
+use Rattle.text.specs.declared.asks.Ask.TheVariants.{Add}
 use Rattle.text.specs.Records.{model_due, clocks_of}
-use Rattle.text.specs.Calls.{Said, unless_refused, said_from, goes_on, case_from, Settled}
+use Rattle.text.specs.Calls.{Said, unless_refused, said_from, goes_on, case_from}
 use Rattle.text.specs.Calls.Said.{word, denied}
 use Rattle.text.specs.Documents.{read, at_end, later_object, later, first_said, first_object, document, if_admitted, settled_text}
 use Rattle.text.specs.Written.{Document, model_asks, model_pieces, later_pieces, document_pieces, SmallOpening, SmallRule, Writes}
@@ -31,7 +31,7 @@ use Rattle.text.specs.WasWritten.{Taken}
 use Rattle.text.specs.Truth.{first_calls, drawn_by, drawn, Draws, Truthful}
 use Rattle.text.proofs.Back.{Shows, shows_append, reads_mark}
 use Rattle.text.proofs.Reading.{laid_shows, model_back}
-use Rattle.text.proofs.Spelled.{Told, Item, Thing, Comma, shows_proper, comma_spelt, mark_spelt}
+use Rattle.text.proofs.Spelled.{Told, Thing, Comma, shows_proper, comma_spelt, mark_spelt}
 use Rattle.text.proofs.Converse.{LaterItem, ModelItem, on_model, on_bracket, object_spelt, model_spelt}
 use Rattle.text.proofs.Sure.{True, Fine, fine_new, fine_from, true_from, Kept, kept, added_rule}
 

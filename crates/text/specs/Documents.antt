@@ -1,5 +1,5 @@
 -- What is answered to a text: tokens, objects and the calls that they ask for.
-use Rattle.std.specs.Prelude.{ℕ, zero, suc, cond, List, [], ◌∷◌, ◌++◌, map, Ok, Err, codes, Result}
+use Rattle.std.specs.Prelude.{ℕ, zero, suc, cond, List, [], ◌∷◌, ◌++◌, Ok, Err, codes, Result}
 use Rattle.fault.specs.declared.Fault.{Fault}
 use Rattle.fault.specs.Faults.{Outcome, number, layer}
 use Rattle.fault.specs.Faults.Outcome.{accepted, refused}

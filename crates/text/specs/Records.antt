@@ -1,5 +1,5 @@
 -- The objects of a text: models and runs, read as the calls that they ask for, and the rows of tables.
-use Rattle.std.specs.Prelude.{ℕ, zero, suc, ◌-◌, min, Bool, true, false, cond, List, [], ◌∷◌, ◌++◌, replicate, Some, None, codes, Option}
+use Rattle.std.specs.Prelude.{ℕ, zero, suc, ◌-◌, min, cond, List, [], ◌∷◌, ◌++◌, replicate, Some, None, codes, Option}
 use Rattle.std.specs.Str.{bytes_eq}
 use Rattle.abstraction.specs.declared.Anything.{Anything}
 use Rattle.ranking.specs.declared.Item.{Item}
@@ -8,7 +8,7 @@ use Rattle.ranking.specs.Items.{none, places, with_items}
 use Rattle.judge.specs.declared.entry.Entry.{Entry}
 use Rattle.automaton.specs.declared.model.Opening.{Opening}
 use Rattle.automaton.specs.declared.rule.RuleNumbers.{RuleNumbers}
-use Rattle.token.specs.Tokens.{Tok, name, number, sign, Ahead, Out, gives, denies, other_due, step}
+use Rattle.token.specs.Tokens.{Tok, name, number, sign, Ahead, Out, gives, other_due, step}
 use Rattle.token.specs.Grammar.{then, mark_due, number_due, comma_due, member_due, mark_next, past_mark, size}
 use Rattle.text.specs.declared.asks.Ask.{Ask}
 use Rattle.text.specs.declared.asks.Ask.TheVariants.{Open, Add, Begin, Delay, Fire}

@@ -1,12 +1,10 @@
 -- Each record that is read leaves fewer tokens ahead.
-use Rattle.std.specs.Prelude.{◌≡◌, ℕ, zero, suc, ◌<◌, ◌≤◌, Bool, true, false, cond, eqb, List, [], ◌∷◌, ◌++◌, Some, None, codes, Option, refl}
-use Rattle.std.proofs.Common.{ap, ◌∙◌, arith}
+use Rattle.std.specs.Prelude.{◌≡◌, ℕ, zero, suc, ◌≤◌, Bool, true, false, cond, List, [], ◌∷◌, ◌++◌, Some, None, codes, Option, refl}
+use Rattle.std.proofs.Common.{ap, arith}
 use Rattle.ranking.specs.declared.Item.{Item}
-use Rattle.token.specs.Lex.{front}
 use Rattle.token.specs.Tokens.{Tok, name, number, sign, Ahead, token, end, none, Out, gives, denies, other_due}
 use Rattle.token.specs.Grammar.{then, mark_due, number_due, comma_due, member_due, mark_next, past_one, past_mark, size, Falls}
 use Rattle.token.specs.Falls.{Stays, rest, token_falls, number_falls, mark_falls, comma_falls, member_falls, then_falls, then_stays, gives_stays, falls_stays}
-use Rattle.text.specs.declared.asks.Ask.{Ask}
 use Rattle.text.specs.declared.asks.Ask.TheVariants.{Open, Add, Begin, Delay, Fire}
 use Rattle.text.specs.declared.asks.Kind.{Kind}
 use Rattle.text.specs.declared.asks.Kind.TheVariants.{Rules, Steps}
@@ -14,8 +12,8 @@ use Rattle.abstraction.specs.Owes.{Answers}
 use Rattle.abstraction.specs.Untimed.{untimed}
 use Rattle.region.specs.Regions.{regions}
 use Rattle.case.specs.Views.{View}
-use Rattle.text.specs.Calls.{Settled, performed, judged_on}
-use Rattle.text.specs.Documents.{run_object, table_object, chosen_table, named_table, topped_table, chosen_object, later_object}
+use Rattle.text.specs.Calls.{performed, judged_on}
+use Rattle.text.specs.Documents.{table_object, chosen_table, topped_table, chosen_object, later_object}
 use Rattle.text.specs.declared.words.Word.{Word}
 use Rattle.text.specs.declared.words.Word.TheVariants.{Scale, Top, Regions, Untimed}
 use Rattle.text.specs.Records.{field_due, next_field_due, next_number_due, opening_due, rule_due, step_due, row_due, items, list_due, rows_due, rest_due, model_due, run_due, word_of, found, as_word, word_due, item_due, more_items, width, region_with, region_due, anything_due, entry_due, table_due}

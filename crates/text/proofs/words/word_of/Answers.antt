@@ -1,4 +1,4 @@
-use Rattle.std.proofs.Common.{◌≡◌, ◌≤◌, length, codes, refl, arith, rules}
+use Rattle.std.proofs.Common.{◌≤◌, length, codes, refl, arith, rules}
 use Rattle.text.specs.declared.words.Word.TheVariants.{Scale, Top, Regions, Untimed}
 use Rattle.text.proofs.Chosen.{chosen, no_letters}
 use Rattle.text.proofs.words.word_of.Goals as goal

@@ -14,5 +14,5 @@ returns-in-Ok c =
 
 pub returns-in-Err : goal.returns-in-Err
 returns-in-Err c =
-    let says : map shown (vec_items c.push-reserved.new.self) ≡ settled_text c.args.text.now = noted _ _ _ c.push-reserved.ensures.items _ refl ∙ c.in-Err.ensures.says in
+    let says : map shown (vec_items c.push_reserved.new.self) ≡ settled_text c.args.text.now = noted _ _ _ c.push_reserved.ensures.items _ refl ∙ c.in-Err.ensures.says in
     record { says = says; laid = as_written _ _ says; was = was_written _ _ says; told = truthful _ _ says }
