@@ -1,4 +1,4 @@
-use Rattle.std.specs.Prelude.{◌≡◌, ℕ, ◌<◌, ◌≤◌, Bool, true, false, ◌&&◌, ◌||◌, List, length, get_or, ◌==◌, ◌≢◌, slice_index, slice_index_or}
+use Rattle.std.specs.Prelude.{◌≡◌, ℕ, ◌<◌, ◌≤◌, Bool, false, ◌&&◌, ◌||◌, List, length, get_or, ◌==◌, ◌≢◌, slice_index, slice_index_or}
 use Rattle.judge.specs.Claims.{Claim}
 use Rattle.abstraction.specs.Lists.{any}
 use Rattle.automaton.specs.declared.rule.Rule.{Rule}

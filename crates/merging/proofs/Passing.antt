@@ -1,5 +1,5 @@
 -- Once the mark has passed the time elapsed above, no rotation brings an agreement.
-use Rattle.std.proofs.Common.{◌≡◌, ℕ, zero, suc, ◌+◌, ◌-◌, ◌*◌, ◌<◌, ◌≤◌, min, Bool, true, false, cond, ◌&&◌, eqb, ltb, List, [], ◌∷◌, map, length, get_or, take, drop, sym, refl, ap, ◌∙◌, subst, inl, inr, suc-add, zero-add, arith}
+use Rattle.std.proofs.Common.{◌≡◌, ℕ, zero, suc, ◌+◌, ◌-◌, ◌*◌, ◌<◌, ◌≤◌, min, Bool, true, false, cond, ◌&&◌, eqb, List, [], ◌∷◌, map, length, get_or, take, drop, sym, refl, ap, ◌∙◌, subst, inl, inr, suc-add, zero-add, arith}
 use Rattle.std.proofs.lemmas.List.{get_or-map, get_or-take, get_or-drop}
 use Rattle.std.proofs.lemmas.Bool.{and_parts, eqb-true, ltb-true, lt-ltb, cases_Bool}
 use Rattle.abstraction.specs.Lists.{all, Sits}
@@ -10,7 +10,6 @@ use Rattle.ranking.specs.declared.Region.{Region}
 use Rattle.ranking.specs.Items.{none, each, ceiling}
 use Rattle.ranking.specs.Rotation.{has_zero, greatest, raised, fallen, rotated, turns}
 use Rattle.ranking.proofs.Each.{getD_each, length_each}
-use Rattle.merging.specs.declared.Tie.{Tie}
 use Rattle.merging.specs.Pop.{clocks_of, tie, ties_of, shared, like, in_order, agrees, here, join_all, tried, passed}
 
 -- a whole part is not lost by a rotation, and stays within one above its ceiling
