@@ -1,5 +1,6 @@
 // Reads a text from standard input, and prints one line for each of its objects and for the fault that
 // ended it.
+#![tactic(auto)]
 
 ghost use Rattle.std.specs.Prelude.{◌≤◌, length, IfOk};
 
