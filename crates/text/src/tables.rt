@@ -2,9 +2,8 @@
 
 ghost use Rattle.std.specs.Prelude.{◌≡◌, ℕ, min, [], length};
 ghost use Rattle.token.specs.Tokens.{Ahead, Out, at, out};
-ghost use Rattle.token.specs.Falls.{Stays};
+ghost use Rattle.token.specs.Falls.{Stays, gives_stays};
 ghost use Rattle.text.specs.Records.{capped, item_due, more_items, region_due, anything_due, entry_due};
-ghost use Rattle.std.proofs.Common.{rules};
 ghost use Rattle.text.specs.Shrinks.{region_stays, entry_falls};
 
 use crate::records::next_number;
@@ -33,7 +32,7 @@ pub(crate) trait Tabled: Abstraction {
 impl Tabled for Untimed {
     ghost due = { λ _. anything_due };
 
-    ghost stays = { Prim.search rules };
+    ghost stays = { λ a n. gives_stays (record {}) };
 
     fn shape(&self, reader: &mut Reader<'_>, clocks: u64) -> Result<Anything, Fault> {
         Ok(Anything)
