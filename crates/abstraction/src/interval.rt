@@ -3,7 +3,7 @@
 ghost use Rattle.std.specs.Prelude.{◌≡◌, true};
 ghost use Rattle.abstraction.specs.Bounds.{at_least, at_most, inside, Inside, fits as fitting, upper_fits, Fits};
 
-#[derive(Clone, Copy)]
+#[derive(Clone, Copy, Debug, PartialEq, Eq)]
 pub enum Upper {
     Upto(u8),
     Under(u8),
@@ -11,7 +11,7 @@ pub enum Upper {
 }
 
 // From `lower`, which belongs to it unless `strict`, to `upper`.
-#[derive(Clone, Copy)]
+#[derive(Clone, Copy, Debug, PartialEq, Eq)]
 pub struct Interval {
     pub lower: u8,
     pub strict: bool,

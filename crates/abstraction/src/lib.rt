@@ -33,6 +33,20 @@ fn above(strict: bool, bound: u128, value: u128) -> bool
     }
 }
 
+impl Upper {
+    // Whether a value, in parts of 1 / scale, keeps to the bound.
+    pub fn allows(self, scale: u64, value: u64) -> bool
+        ensures { result ≡ at_most scale self value }
+    {
+        let (d, v) = (scale as u128, value as u128);
+        match self {
+            Upper::Upto(b) => v <= b as u128 * d,
+            Upper::Under(b) => v < b as u128 * d,
+            Upper::Unbounded => true,
+        }
+    }
+}
+
 impl Interval {
     // Whether a value, in parts of 1 / scale, lies in the interval.
     pub fn contains(self, scale: u64, value: u64) -> bool
@@ -41,12 +55,7 @@ impl Interval {
         ensures only { Inside scale self value → result ≡ true }
     {
         let (d, v) = (scale as u128, value as u128);
-        above(self.strict, self.lower as u128 * d, v)
-            && match self.upper {
-                Upper::Upto(b) => v <= b as u128 * d,
-                Upper::Under(b) => v < b as u128 * d,
-                Upper::Unbounded => true,
-            }
+        above(self.strict, self.lower as u128 * d, v) && self.upper.allows(scale, value)
     }
 
     // Whether each finite bound is at most top.
@@ -74,7 +83,7 @@ impl<S: Copy> Listing<S> {
     pub fn clear(&mut self)
         ensures { shapes_of self.new ≡ [] }
     {
-        self.shapes.truncate(0);
+        self.shapes.clear();
     }
 
     // One shape more, where there is room.
@@ -86,10 +95,18 @@ impl<S: Copy> Listing<S> {
         }
     }
 
+    // Lists one shape and no other.
+    pub fn only(&mut self, s: S)
+        ensures { shapes_of self.new ≡ s ∷ [] }
+    {
+        self.clear();
+        self.add(s);
+    }
+
     pub fn shapes(&self) -> &[S]
         ensures { result.now ≡ shapes_of self.now }
     {
-        self.shapes.as_slice()
+        &self.shapes
     }
 }
 
@@ -153,7 +170,7 @@ pub trait Abstraction {
 }
 
 // The one shape of the untimed abstraction.
-#[derive(Clone, Copy)]
+#[derive(Clone, Copy, Debug, PartialEq, Eq)]
 pub struct Anything;
 
 // The abstraction that forgets all times: its one shape covers every frame.
@@ -166,13 +183,6 @@ impl Untimed {
     {
         Untimed
     }
-}
-
-fn list_anything(s: Anything, out: &mut Listing<Anything>)
-    ensures { shapes_of out.new ≡ s ∷ [] }
-{
-    out.clear();
-    out.add(s);
 }
 
 impl Abstraction for Untimed {
@@ -193,7 +203,7 @@ impl Abstraction for Untimed {
     }
 
     fn time(&self, scope: Scope, s: Anything, out: &mut Listing<Anything>) {
-        list_anything(s, out);
+        out.only(s);
     }
 
     fn test(
@@ -204,7 +214,7 @@ impl Abstraction for Untimed {
         s: Anything,
         out: &mut Listing<Anything>,
     ) {
-        list_anything(s, out);
+        out.only(s);
     }
 
     fn assign(
@@ -215,11 +225,11 @@ impl Abstraction for Untimed {
         s: Anything,
         out: &mut Listing<Anything>,
     ) {
-        list_anything(s, out);
+        out.only(s);
     }
 
     fn push(&self, scope: Scope, i: Interval, s: Anything, out: &mut Listing<Anything>) {
-        list_anything(s, out);
+        out.only(s);
     }
 
     fn pop(
@@ -230,7 +240,7 @@ impl Abstraction for Untimed {
         u: Anything,
         out: &mut Listing<Anything>,
     ) {
-        list_anything(s, out);
+        out.only(s);
     }
 
     fn within(&self, scope: Scope, s: Anything, t: Anything) -> bool {

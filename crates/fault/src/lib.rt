@@ -8,37 +8,37 @@ ghost use Rattle.fault.specs.declared.Refusal.{Refusal};
 ghost use Rattle.fault.specs.declared.Place.TheVariants.{Row};
 
 // What was wrong, one variant for each refusal, in the order of their numbers.
-#[derive(Clone, Copy)]
+#[derive(Clone, Copy, Debug, PartialEq, Eq)]
 pub enum Refusal {
-    SizeOutOfRange,
-    NoSuchState,
-    RuleTableFull,
-    RuleStateUnknown,
-    KindUnknown,
-    ArgumentUnfit,
-    BoundUnfit,
-    NoSuchRule,
-    ClocksFull,
-    NoSuchPlace,
-    ScaleOutOfRange,
-    NoRun,
-    ValueTooLarge,
-    OtherState,
-    OtherTop,
-    StackFull,
-    OutsideInterval,
-    TableUnfit,
-    EntryUnlawful,
-    FirstEntryUnfit,
-    EntryInTarget,
-    NotClosed,
-    NoToken,
-    OtherTokenDue,
-    NumberUnfit,
+    SizeOutOfRange = 1,
+    NoSuchState = 2,
+    RuleTableFull = 3,
+    RuleStateUnknown = 4,
+    KindUnknown = 5,
+    ArgumentUnfit = 6,
+    BoundUnfit = 7,
+    NoSuchRule = 8,
+    ClocksFull = 9,
+    NoSuchPlace = 10,
+    ScaleOutOfRange = 11,
+    NoRun = 12,
+    ValueTooLarge = 13,
+    OtherState = 14,
+    OtherTop = 15,
+    StackFull = 16,
+    OutsideInterval = 17,
+    TableUnfit = 18,
+    EntryUnlawful = 19,
+    FirstEntryUnfit = 20,
+    EntryInTarget = 21,
+    NotClosed = 22,
+    NoToken = 23,
+    OtherTokenDue = 24,
+    NumberUnfit = 25,
 }
 
 // The part of the checker that refused.
-#[derive(Clone, Copy)]
+#[derive(Clone, Copy, Debug, PartialEq, Eq)]
 pub enum Layer {
     Text,
     Record,
@@ -47,14 +47,14 @@ pub enum Layer {
 }
 
 // Where the fault lies: a byte of a text, a row of an object (0 for none), or a place in a table.
-#[derive(Clone, Copy)]
+#[derive(Clone, Copy, Debug, PartialEq, Eq)]
 pub enum Place {
     Byte(u64),
     Row(u64),
     Table { entry: u64, rule: u64, above: u64 },
 }
 
-#[derive(Clone, Copy)]
+#[derive(Clone, Copy, Debug, PartialEq, Eq)]
 pub struct Fault {
     pub refusal: Refusal,
     pub place: Place,
@@ -66,33 +66,7 @@ impl Refusal {
         ensures value { result ≡ numbered self }
         ensures apart { (other : Refusal) → numbered other ≡ result → other ≡ self }
     {
-        match self {
-            Refusal::SizeOutOfRange => 1,
-            Refusal::NoSuchState => 2,
-            Refusal::RuleTableFull => 3,
-            Refusal::RuleStateUnknown => 4,
-            Refusal::KindUnknown => 5,
-            Refusal::ArgumentUnfit => 6,
-            Refusal::BoundUnfit => 7,
-            Refusal::NoSuchRule => 8,
-            Refusal::ClocksFull => 9,
-            Refusal::NoSuchPlace => 10,
-            Refusal::ScaleOutOfRange => 11,
-            Refusal::NoRun => 12,
-            Refusal::ValueTooLarge => 13,
-            Refusal::OtherState => 14,
-            Refusal::OtherTop => 15,
-            Refusal::StackFull => 16,
-            Refusal::OutsideInterval => 17,
-            Refusal::TableUnfit => 18,
-            Refusal::EntryUnlawful => 19,
-            Refusal::FirstEntryUnfit => 20,
-            Refusal::EntryInTarget => 21,
-            Refusal::NotClosed => 22,
-            Refusal::NoToken => 23,
-            Refusal::OtherTokenDue => 24,
-            Refusal::NumberUnfit => 25,
-        }
+        self as u8
     }
 
     // The layer that refuses so.

@@ -1,13 +1,13 @@
 use Rattle.std.specs.Prelude.{◌≡◌, ℕ, zero, suc, ◌*◌, ◌≤◌, Bool, true, false, cond, leb, [], ◌∷◌, nat_le, refl}
-use Rattle.std.proofs.Common.{sym, ap, subst, ◌∙◌, arith, not-suc-le-zero, le_of_suc-le-suc, mul-le-mul_right, zero-mul, add-mul, one-mul}
+use Rattle.std.proofs.Common.{sym, ap, subst, ◌∙◌, arith, not-suc-le-zero, le_of_suc-le-suc, mul-le-mul_right, zero-mul, add-mul, mul-one, one-mul}
 use Rattle.std.proofs.lemmas.Bool.{leb-true, le-leb, leb-false, ltb-false, cond-true}
 use Rattle.abstraction.specs.Lists.{In}
-use Rattle.abstraction.specs.Bounds.{AtLeast, AtMost}
+use Rattle.abstraction.specs.Bounds.{AtLeast, AtMost, at_most}
 use Rattle.abstraction.specs.Owes.{Lawfully, ListsLawfully, Covers}
 use Rattle.abstraction.specs.declared.interval.Upper.{Upper}
 use Rattle.abstraction.specs.declared.interval.Upper.TheVariants.{Upto, Under, Unbounded}
 use Rattle.abstraction.specs.declared.scope.Scope.{Scope}
-use Rattle.floors.specs.Floors.{allows, floors, at_least_so_old}
+use Rattle.floors.specs.Floors.{floors, at_least_so_old}
 use Rattle.floors.specs.declared.Floor.{Floor}
 use Rattle.floors.specs.declared.Floors.{Floors}
 
@@ -34,7 +34,7 @@ lists a w small =
       tests = λ s h k i l f. one_listed a w s h;
       assigns = λ s h k i l f. one_listed a w s h;
       pushes = λ s h i f. one_listed a w (record { age = i.lower }) (le-leb i.lower w.top f.0);
-      pops = λ s u h g i f. pop_listed a w s h (allows i.upper u.age);
+      pops = λ s u h g i f. pop_listed a w s h (at_most 1 i.upper u.age);
     }
 
 -- covering
@@ -48,14 +48,14 @@ above_lower true n v h = omega (arith, h)
 above_lower false n v h = h
 
 -- an age that is at least n units and keeps to the upper bound shows that something so old can
-keeps : (D : ℕ) → 1 ≤ D → (u : Upper) (n v : ℕ) → n * D ≤ v → AtMost D u v → (b : Bool) → allows u n ≡ b → b ≡ true
+keeps : (D : ℕ) → 1 ≤ D → (u : Upper) (n v : ℕ) → n * D ≤ v → AtMost D u v → (b : Bool) → at_most 1 u n ≡ b → b ≡ true
 keeps D one u n v h k true e = refl
 keeps D one (Upto b) n v h k false e =
-    let l = leb-false n b e in
+    let l = leb-false n (b * 1) e in
     let m = mul-le-mul_right D l in
-    absurd (omega (arith, m, add-mul b 1 D, one-mul D))
+    absurd (omega (arith, m, mul-one b, add-mul (b * 1) 1 D, one-mul D))
 keeps D one (Under b) n v h k false e =
-    let l = ltb-false n b e in
+    let l = ltb-false n (b * 1) e in
     let m = mul-le-mul_right D l in
     absurd (omega (arith, m))
 keeps D one Unbounded n v h k false e = absurd (let x : ◌≡◌ {A = ℕ} 0 1 = cc in omega arith)

@@ -1,20 +1,14 @@
-use Rattle.std.specs.Prelude.{ℕ, ◌*◌, ◌≤◌, Bool, true, cond, List, [], ◌∷◌, nat_le, nat_lt}
+use Rattle.std.specs.Prelude.{◌*◌, ◌≤◌, cond, List, [], ◌∷◌, nat_le}
 use Rattle.abstraction.specs.Owes.{Answers, Meaning}
 use Rattle.abstraction.specs.declared.interval.Interval.{Interval}
-use Rattle.abstraction.specs.declared.interval.Upper.{Upper}
-use Rattle.abstraction.specs.declared.interval.Upper.TheVariants.{Upto, Under, Unbounded}
+use Rattle.abstraction.specs.Bounds.{at_most}
 use Rattle.floors.specs.declared.Floor.{Floor}
 use Rattle.floors.specs.declared.Floors.{Floors}
 
--- something at least n units old can keep to the upper bound
-abbrev pub allows : Upper → ℕ → Bool
-allows (Upto b) n = nat_le n b
-allows (Under b) n = nat_lt n b
-allows Unbounded n = true
-
--- what a pop of u leaves: the frame below only gets older
+-- what a pop of u leaves: something at least so old may still keep to the upper bound, and the frame
+-- below only gets older
 abbrev pub popped_list : Interval → Floor → Floor → List Floor
-popped_list i s u = cond (allows i.upper u.age) (s ∷ []) []
+popped_list i s u = cond (at_most 1 i.upper u.age) (s ∷ []) []
 
 abbrev pub floors : Floors → Answers Floor
 floors a =

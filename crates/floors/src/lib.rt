@@ -7,13 +7,13 @@
 ghost use Rattle.std.specs.Prelude.{◌≡◌, [], ◌∷◌};
 ghost use Rattle.abstraction.specs.Owes.{Covers};
 ghost use Rattle.abstraction.specs.Room.{shapes as shapes_of};
-ghost use Rattle.floors.specs.Floors.{floors, at_least_so_old, allows as allowing, popped_list};
+ghost use Rattle.floors.specs.Floors.{floors, at_least_so_old, popped_list};
 ghost use Rattle.floors.specs.Covering;
 
-use abstraction::{Abstraction, Interval, Listing, Scope, Upper};
+use abstraction::{Abstraction, Interval, Listing, Scope};
 
 // The top is at least `age` units old.
-#[derive(Clone, Copy)]
+#[derive(Clone, Copy, Debug, PartialEq, Eq)]
 pub struct Floor {
     pub age: u64,
 }
@@ -29,29 +29,12 @@ impl Floors {
     }
 }
 
-fn list(s: Floor, out: &mut Listing<Floor>)
-    ensures { shapes_of out.new ≡ s ∷ [] }
-{
-    out.clear();
-    out.add(s);
-}
-
-// Whether something at least so old can keep to the upper bound.
-fn allows(upper: Upper, age: u64) -> bool
-    ensures { result ≡ allowing upper age }
-{
-    match upper {
-        Upper::Upto(b) => age <= b as u64,
-        Upper::Under(b) => age < b as u64,
-        Upper::Unbounded => true,
-    }
-}
-
 fn list_popped(i: Interval, s: Floor, u: Floor, out: &mut Listing<Floor>)
     ensures { shapes_of out.new ≡ popped_list i s u }
 {
     out.clear();
-    if allows(i.upper, u.age) {
+    // Something at least so old may still keep to the upper bound.
+    if i.upper.allows(1, u.age) {
         out.add(s);
     }
 }
@@ -74,24 +57,21 @@ impl Abstraction for Floors {
     }
 
     fn time(&self, scope: Scope, s: Floor, out: &mut Listing<Floor>) {
-        list(s, out);
+        out.only(s);
     }
 
     fn test(&self, scope: Scope, clock: u64, i: Interval, s: Floor, out: &mut Listing<Floor>) {
-        list(s, out);
+        out.only(s);
     }
 
     fn assign(&self, scope: Scope, clock: u64, i: Interval, s: Floor, out: &mut Listing<Floor>) {
-        list(s, out);
+        out.only(s);
     }
 
     fn push(&self, scope: Scope, i: Interval, s: Floor, out: &mut Listing<Floor>) {
-        list(
-            Floor {
-                age: i.lower as u64,
-            },
-            out,
-        );
+        out.only(Floor {
+            age: i.lower as u64,
+        });
     }
 
     fn pop(&self, scope: Scope, i: Interval, s: Floor, u: Floor, out: &mut Listing<Floor>) {
