@@ -1,12 +1,13 @@
 -- No longer number stands at the front of some bytes.
-use Rattle.std.proofs.Common.{◌≡◌, ℕ, ◌+◌, ◌<◌, ◌≤◌, Bool, true, false, cond, ◌||◌, eqb, ltb, ◌⊎◌, List, [], ◌∷◌, ◌++◌, length, drop, sym, refl, ap, ◌∙◌, inl, inr, append_assoc, add-zero, arith}
+use Rattle.std.proofs.Common.{◌≡◌, ℕ, ◌+◌, ◌-◌, ◌<◌, ◌≤◌, Bool, true, false, cond, ◌||◌, eqb, ltb, ◌⊎◌, List, [], ◌∷◌, ◌++◌, length, take, drop, Some, sym, refl, ap, ◌∙◌, inl, inr, append_assoc, add-zero, arith}
 use Rattle.std.specs.List.{prefix_len, AllByRecursion}
-use Rattle.std.proofs.lemmas.List.{drop_at, get_or_append_left, length-append}
+use Rattle.std.proofs.lemmas.List.{drop_at, take_rest, get_or_append_left, length-append}
 use Rattle.std.proofs.lemmas.Bool.{ne_eqb}
 use Rattle.std.proofs.lemmas.Bool.Decides.{nat_tests}
 use Rattle.token.specs.Bytes.{digit}
-use Rattle.token.specs.Lex.{front, digits_len, sign_len, whole_len, fraction_len, power_len, exponent_len, tail_len, number_len}
+use Rattle.token.specs.Lex.{front, digits_len, sign_len, whole_len, fraction_len, power_len, exponent_len, tail_len, number_len, some_len}
 use Rattle.token.specs.Numbers.{Digits, Minus, Whole, Fraction, Signed, Power, Exponent, Number, Longest}
+use Rattle.token.proofs.Going.{some_long}
 use Rattle.token.proofs.Numbers.{Cut, number_cut}
 
 -- a run goes on through bytes that pass the test, and stops where one fails
@@ -118,6 +119,14 @@ tail_front f x more (inr h) k = inr (rw h.2)
 
 number_sum : (bs : List ℕ) (s w t : ℕ) → sign_len bs ≡ s → whole_len (drop s bs) ≡ w → 0 < w → tail_len (drop (s + w) bs) ≡ t → number_len bs ≡ s + w + t
 number_sum bs s w t a b some c = let any : eqb w 0 ≡ false = grind (arith, nat_tests) in rw (a, b, any, c)
+
+-- the parts that the reader finds
+pub parts_len : (bs : List ℕ) (s w t : ℕ) → s ≡ sign_len bs → Some w ≡ some_len (whole_len (take (length bs - s) (drop s bs))) → t ≡ tail_len (take (length bs - (s + w)) (drop (s + w) bs)) → Some (s + w + t) ≡ some_len (number_len bs)
+parts_len bs s w t a b c =
+    let some = some_long w _ b in
+    let sum = number_sum bs s w t (sym a) (ap whole_len (sym (take_rest bs s)) ∙ sym some.0) some.1 (ap tail_len (sym (take_rest bs (s + w))) ∙ sym c) in
+    let any : eqb (s + w + t) 0 ≡ false = grind (arith, nat_tests) in
+    rw (sum, any)
 
 parts_long : (s w f x more : List ℕ) → Minus s → Whole w → Fraction f → Exponent x → ((length f + length x ≡ 0) ⊎ (digit (front (f ++ (x ++ more))) ≡ false)) → length s + length w + (length f + length x) ≤ number_len (s ++ (w ++ (f ++ (x ++ more))))
 parts_long s w f x more i j k l (inl none) =
