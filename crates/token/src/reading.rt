@@ -39,7 +39,7 @@ fn value_of(bytes: &[u8]) -> Option<u64>
         if !b.is_ascii_digit() {
             return None;
         }
-        n = n * 10 + (*b - b'0') as u64;
+        n = n * 10 + u64::from(*b - b'0');
         if n > GREATEST {
             return None;
         }
