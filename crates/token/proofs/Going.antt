@@ -2,7 +2,7 @@
 use Rattle.std.proofs.Common.{◌≡◌, ℕ, zero, suc, ◌+◌, ◌-◌, ◌<◌, ◌≤◌, Bool, true, false, cond, eqb, List, [], ◌∷◌, length, take, drop, slice_get, Some, None, sym, refl, ap, ◌∙◌, add-zero, one-add, arith, length-drop}
 use Rattle.std.specs.List.{prefix_len, between}
 use Rattle.std.proofs.lemmas.List.{drop-drop, nil_from_length, take_rest}
-use Rattle.std.proofs.lemmas.Bool.{true≢false, eqb-true, eqb-false}
+use Rattle.std.proofs.lemmas.Bool.{true≢false}
 use Rattle.std.proofs.lemmas.Bool.Decides.{nat_tests}
 use Rattle.token.specs.Bytes.{white, mark}
 use Rattle.token.specs.Grammar.{is_end}
@@ -40,32 +40,27 @@ arrives (b ∷ bs) p = ap (cond (white b) (ahead 0 bs (p + 1))) (rest_of (eqb (t
 
 gone : (rest : List ℕ) (s : ℕ) → 0 < length rest → token_len rest ≡ 0 → no_token s (go rest s) ≡ step (go rest s)
 gone [] s h e = absurd (omega arith)
-gone (b ∷ bs) s h e = rw e
+gone (b ∷ bs) s h e = grind (arith, nat_tests)
 
 there : (rest : List ℕ) (s : ℕ) → 0 < length rest → 0 < token_len rest → gives (token_of rest s) (ahead 0 (drop (token_len rest) rest) (s + token_len rest)) ≡ step (go rest s)
 there [] s h e = absurd (omega arith)
-there (b ∷ bs) s h e = let some : eqb (token_len (b ∷ bs)) 0 ≡ false = grind (arith, nat_tests) in rw some
-
--- a length that is some
-some_case : (n m : ℕ) (t : Bool) → eqb m 0 ≡ t → Some n ≡ cond t None (Some m) → (n ≡ m) × (0 < n)
-some_case n m true e h = let z : ◌≡◌ {A = ℕ} 0 1 = cc in absurd (omega arith)
-some_case n m false e h = let same : n ≡ m = cc in let z = eqb-false m 0 e in (same, grind arith)
-
-pub some_long : (n m : ℕ) → Some n ≡ some_len m → (n ≡ m) × (0 < n)
-some_long n m e = some_case n m (eqb m 0) refl e
-
-none_case : (m : ℕ) (t : Bool) → eqb m 0 ≡ t → None ≡ cond t None (Some m) → m ≡ 0
-none_case m true e h = eqb-true m 0 e
-none_case m false e h = let z : ◌≡◌ {A = ℕ} 0 1 = cc in absurd (omega arith)
+there (b ∷ bs) s h e = grind (arith, nat_tests)
 
 -- the first of some bytes
 first_is : (bs : List ℕ) (b : ℕ) → Some b ≡ slice_get bs 0 → (0 < length bs) × (front bs ≡ b)
-first_is [] b e = let z : ◌≡◌ {A = ℕ} 0 1 = cc in absurd (omega arith)
+first_is [] b e = absurd (cc)
 first_is (c ∷ bs) b e = (omega arith, cc)
 
 no_first : (bs : List ℕ) → None ≡ slice_get bs 0 → length bs ≡ 0
 no_first [] e = refl
-no_first (c ∷ bs) e = let z : ◌≡◌ {A = ℕ} 0 1 = cc in absurd (omega arith)
+no_first (c ∷ bs) e = absurd (cc)
+
+-- a length that is some, or none
+some_long : (n m : ℕ) → Some n ≡ some_len m → (n ≡ m) × (0 < n)
+some_long n m e = grind (arith, nat_tests)
+
+none_long : (m : ℕ) → None ≡ some_len m → 0 ≡ m
+none_long m e = grind (arith, nat_tests)
 
 -- which token stands at the front
 as_mark : (bs : List ℕ) (s : ℕ) → mark (front bs) ≡ true → (1 ≡ token_len bs) × (sign (take 1 bs) s ≡ token_of bs s)
@@ -103,7 +98,7 @@ module _ (text : List ℕ) (p s : ℕ) (skips : s ≡ p + prefix_len white (drop
   mark_next b h e = let f = first_is rest b h in found 1 _ f.0 (omega arith) (as_mark rest s (ap mark f.1 ∙ e))
 
   pub no_name : Some 34 ≡ slice_get rest 0 → None ≡ some_len (name_len rest) → no_token s (ahead 0 (drop p text) p) ≡ step (ahead 0 (drop p text) p)
-  no_name h e = let f = first_is rest 34 h in missed f.0 (as_name rest s 0 f.1 (sym (none_case _ _ refl e))).0
+  no_name h e = let f = first_is rest 34 h in missed f.0 (as_name rest s 0 f.1 (none_long _ e)).0
 
   pub name_next : Some 34 ≡ slice_get rest 0 → (n : ℕ) → Some n ≡ some_len (name_len rest) → gives (name (between 1 (n - 1) rest) s) (ahead 0 (drop (s + n) text) (s + n)) ≡ step (ahead 0 (drop p text) p)
   name_next h n e = let f = first_is rest 34 h in let l = some_long n _ e in found n _ f.0 l.1 (as_name rest s n f.1 l.0)
@@ -113,21 +108,17 @@ module _ (text : List ℕ) (p s : ℕ) (skips : s ≡ p + prefix_len white (drop
     is_number n e = let f = first_is rest b h in as_number rest s n (ap mark f.1 ∙ other) (ap (λ x. eqb x 34) f.1 ∙ nor) e
 
     pub no_number : None ≡ some_len (number_len rest) → no_token s (ahead 0 (drop p text) p) ≡ step (ahead 0 (drop p text) p)
-    no_number e = missed (first_is rest b h).0 (is_number 0 (sym (none_case _ _ refl e))).0
+    no_number e = missed (first_is rest b h).0 (is_number 0 (none_long _ e)).0
 
     pub number_next : (n : ℕ) → Some n ≡ some_len (number_len rest) → gives (number (take n rest) s) (ahead 0 (drop (s + n) text) (s + n)) ≡ step (ahead 0 (drop p text) p)
     number_next n e = let l = some_long n _ e in found n _ (first_is rest b h).0 l.1 (is_number n l.0)
 
 -- only white bytes are left
-not_end : (t : Bool) (s : ℕ) (k : Tok) (a : Ahead) → is_end (cond t (none s) (token k a)) ≡ false
-not_end true s k a = refl
-not_end false s k a = refl
-
 end_go : (rest : List ℕ) (s : ℕ) → is_end (go rest s) ≡ eqb (length rest) 0
 end_go [] s = refl
-end_go (b ∷ bs) s = let some : eqb (length (b ∷ bs)) 0 ≡ false = grind (arith, nat_tests) in not_end _ s _ _ ∙ sym some
+end_go (b ∷ bs) s = grind (arith, nat_tests)
 
-pub all_white : (bs : List ℕ) (p : ℕ) → prefix_len white bs ≤ length bs → eqb (prefix_len white bs) (length bs) ≡ is_end (ahead 0 bs p)
+all_white : (bs : List ℕ) (p : ℕ) → prefix_len white bs ≤ length bs → eqb (prefix_len white bs) (length bs) ≡ is_end (ahead 0 bs p)
 all_white bs p h =
     let left = length-drop (prefix_len white bs) bs in
     let same : eqb (prefix_len white bs) (length bs) ≡ eqb (length (drop (prefix_len white bs) bs)) 0 = rw left (grind (arith, nat_tests)) in
