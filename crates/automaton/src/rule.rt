@@ -1,5 +1,8 @@
 // Rules, their actions and the symbols of the stack.
 
+ghost use Rattle.std.specs.Prelude.{◌≡◌};
+ghost use Rattle.automaton.specs.Rules.{numbers};
+
 use abstraction::Interval;
 
 #[derive(Clone, Copy)]
@@ -37,6 +40,26 @@ pub struct RuleNumbers {
     pub lower_flag: u64,
     pub upper: u64,
     pub upper_flag: u64,
+}
+
+impl From<[u64; 8]> for RuleNumbers {
+    ghost from_gives = { λ row n. n ≡ numbers row };
+
+    fn from(row: [u64; 8]) -> RuleNumbers
+        ensures { result ≡ numbers row }
+    {
+        let [from, to, kind, argument, lower, lower_flag, upper, upper_flag] = row;
+        RuleNumbers {
+            from,
+            to,
+            kind,
+            argument,
+            lower,
+            lower_flag,
+            upper,
+            upper_flag,
+        }
+    }
 }
 
 // How many states, labels and clocks there are.
