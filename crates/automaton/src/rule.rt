@@ -29,7 +29,7 @@ pub struct Symbol {
     pub age: u64,
 }
 
-// A rule as users write it: eight whole numbers.
+// A rule as users write it: eight whole numbers, since public calls take all numbers.
 #[derive(Clone, Copy)]
 pub struct RuleNumbers {
     pub from: u64,
@@ -48,7 +48,16 @@ impl From<[u64; 8]> for RuleNumbers {
     fn from(row: [u64; 8]) -> RuleNumbers
         ensures { result ≡ numbers row }
     {
-        let [from, to, kind, argument, lower, lower_flag, upper, upper_flag] = row;
+        let [
+            from,
+            to,
+            kind,
+            argument,
+            lower,
+            lower_flag,
+            upper,
+            upper_flag,
+        ] = row;
         RuleNumbers {
             from,
             to,
