@@ -48,25 +48,15 @@ impl From<[u64; 8]> for RuleNumbers {
     fn from(row: [u64; 8]) -> RuleNumbers
         ensures { result ≡ numbers row }
     {
-        let [
-            from,
-            to,
-            kind,
-            argument,
-            lower,
-            lower_flag,
-            upper,
-            upper_flag,
-        ] = row;
         RuleNumbers {
-            from,
-            to,
-            kind,
-            argument,
-            lower,
-            lower_flag,
-            upper,
-            upper_flag,
+            from: row[0],
+            to: row[1],
+            kind: row[2],
+            argument: row[3],
+            lower: row[4],
+            lower_flag: row[5],
+            upper: row[6],
+            upper_flag: row[7],
         }
     }
 }
