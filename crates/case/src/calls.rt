@@ -11,7 +11,7 @@ ghost use Rattle.case.specs.Calls.{new_case, open_view, add_view, remove_view, r
 
 use super::case::{Case, Standing};
 use super::moves::Asked;
-use super::run::{Progress, Run};
+use super::run::Progress;
 use super::stack::Stack;
 use automaton::{Model, Opening, RuleNumbers};
 use fault::{Fault, Refusal};
@@ -29,7 +29,7 @@ impl Case {
         let stack = Stack::new(heap)?;
         Ok(Case {
             model,
-            run: Run::Idle,
+            run: None,
             stack,
             standing: Standing::Undecided,
         })
@@ -115,12 +115,11 @@ impl Case {
         }
         let state = self.model.start();
         self.stack.clear();
-        self.arrive(Progress {
+        Ok(self.arrive(Progress {
             scale: scale as u32,
             state,
             clocks: [0; 3],
-        });
-        Ok(state)
+        }))
     }
 
     // Lets units pass.
@@ -141,7 +140,7 @@ impl Case {
         ensures kept { is_ok result ≡ false → self.new ≡ self.old }
     {
         match self.model.rule(place) {
-            Some(rule) => self.step(Asked::Fire(rule, rule.action, value)),
+            Some(rule) => self.step(Asked::Fire(rule, value)),
             None => Err(Fault::of_call(Refusal::NoSuchRule)),
         }
     }
