@@ -140,7 +140,7 @@ impl Case {
         ensures kept { is_ok result ≡ false → self.new ≡ self.old }
     {
         match self.model.rule(place) {
-            Some(rule) => self.step(Asked::Fire(rule, value)),
+            Some(rule) => self.step(Asked::Fire(rule, rule.action, value)),
             None => Err(Fault::of_call(Refusal::NoSuchRule)),
         }
     }

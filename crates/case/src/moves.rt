@@ -19,7 +19,7 @@ use fault::{Fault, Refusal};
 #[derive(Clone, Copy)]
 pub(crate) enum Asked {
     Delay(u64),
-    Fire(Rule, u64),
+    Fire(Rule, Action, u64),
 }
 
 impl Case {
@@ -79,64 +79,28 @@ impl Case {
         match (self.run, asked) {
             (None, _) => Err(Fault::of_call(Refusal::NoRun)),
             (Some(p), Asked::Delay(units)) => self.wait(p, units),
-            (
-                Some(p),
-                Asked::Fire(
-                    rule @ Rule {
-                        action: Action::Assign(clock),
-                        ..
-                    },
-                    value,
-                ),
-            ) => {
+            (Some(mut p), Asked::Fire(rule, Action::Assign(clock), value)) => {
                 self.position(&p).may_fire(rule, value)?;
-                let mut next = Progress {
-                    state: rule.to,
-                    ..p
-                };
-                next.clocks[clock as usize] = value;
-                Ok(self.arrive(next))
+                p.clocks[clock as usize] = value;
+                p.state = rule.to;
+                Ok(self.arrive(p))
             }
-            (
-                Some(p),
-                Asked::Fire(
-                    rule @ Rule {
-                        action: Action::Push(label),
-                        ..
-                    },
-                    value,
-                ),
-            ) => {
+            (Some(mut p), Asked::Fire(rule, Action::Push(label), value)) => {
                 self.position(&p).may_fire(rule, value)?;
                 self.stack.push(Symbol { label, age: value });
-                Ok(self.arrive(Progress {
-                    state: rule.to,
-                    ..p
-                }))
+                p.state = rule.to;
+                Ok(self.arrive(p))
             }
-            (
-                Some(p),
-                Asked::Fire(
-                    rule @ Rule {
-                        action: Action::Pop(_),
-                        ..
-                    },
-                    value,
-                ),
-            ) => {
+            (Some(mut p), Asked::Fire(rule, Action::Pop(_), value)) => {
                 self.position(&p).may_fire(rule, value)?;
                 self.stack.pop();
-                Ok(self.arrive(Progress {
-                    state: rule.to,
-                    ..p
-                }))
+                p.state = rule.to;
+                Ok(self.arrive(p))
             }
-            (Some(p), Asked::Fire(rule, value)) => {
+            (Some(mut p), Asked::Fire(rule, _, value)) => {
                 self.position(&p).may_fire(rule, value)?;
-                Ok(self.arrive(Progress {
-                    state: rule.to,
-                    ..p
-                }))
+                p.state = rule.to;
+                Ok(self.arrive(p))
             }
         }
     }
