@@ -11,7 +11,7 @@ ghost use Rattle.case.specs.Calls.{new_case, open_view, add_view, remove_view, r
 
 use super::case::{Case, Standing};
 use super::moves::Asked;
-use super::run::{Progress, Run};
+use super::run::Progress;
 use super::stack::Stack;
 use automaton::{Model, Opening, RuleNumbers};
 use fault::{Fault, Refusal};
@@ -29,10 +29,23 @@ impl Case {
         let stack = Stack::new(heap)?;
         Ok(Case {
             model,
-            run: Run::Idle,
+            run: None,
             stack,
             standing: Standing::Undecided,
         })
+    }
+
+    // Makes the case what a new one is.
+    pub fn renew(&mut self)
+        ensures { view self.new ≡ new_case }
+    {
+        let _ = self.open(Opening {
+            states: 1,
+            start: 0,
+            target: 0,
+            labels: 0,
+            clocks: 0,
+        });
     }
 
     // Sets all sizes, start and target, with no rules.
@@ -102,12 +115,11 @@ impl Case {
         }
         let state = self.model.start();
         self.stack.clear();
-        self.arrive(Progress {
+        Ok(self.arrive(Progress {
             scale: scale as u32,
             state,
             clocks: [0; 3],
-        });
-        Ok(state)
+        }))
     }
 
     // Lets units pass.
