@@ -24,17 +24,17 @@ low_ceiling w i = omega arith
 
 fits_at : (c : ℕ → ℕ) (k : ℕ) (xs : List Item) → wholes_fit c k xs ≡ true → (i : ℕ) → i < length xs → whole_at xs i ≤ c (k + i) + 1
 fits_at c k [] h i lt = absurd (omega arith)
-fits_at c k (x ∷ xs) h zero lt = let p = and_parts (nat_le x.whole (c k + 1)) (wholes_fit c (suc k) xs) h in omega (arith, leb-true _ _ p.0, ap c (add-zero k))
+fits_at c k (x ∷ xs) h zero lt = let p = and_parts (nat_le x.whole (c k + 1)) (wholes_fit c (k + 1) xs) h in omega (arith, leb-true _ _ p.0, ap c (add-zero k))
 fits_at c k (x ∷ xs) h (suc i) lt =
-    let p = and_parts (nat_le x.whole (c k + 1)) (wholes_fit c (suc k) xs) h in
-    let e : suc k + i ≡ k + suc i = omega arith in
-    omega (arith, fits_at c (suc k) xs p.1 i (omega arith), ap c e)
+    let p = and_parts (nat_le x.whole (c k + 1)) (wholes_fit c (k + 1) xs) h in
+    let e : k + 1 + i ≡ k + suc i = omega arith in
+    omega (arith, fits_at c (k + 1) xs p.1 i (omega arith), ap c e)
 
 at_fits : (c : ℕ → ℕ) (k : ℕ) (xs : List Item) → ((i : ℕ) → i < length xs → whole_at xs i ≤ c (k + i) + 1) → wholes_fit c k xs ≡ true
 at_fits c k [] h = refl
 at_fits c k (x ∷ xs) h =
     and_from (nat_le x.whole (c k + 1)) _ (le-leb _ _ (omega (arith, h 0 (omega arith), ap c (add-zero k))))
-    (at_fits c (suc k) xs (λ i lt. let e : k + suc i ≡ suc k + i = omega arith in omega (arith, h (suc i) (omega arith), ap c e)))
+    (at_fits c (k + 1) xs (λ i lt. let e : k + suc i ≡ k + 1 + i = omega arith in omega (arith, h (suc i) (omega arith), ap c e)))
 
 empty_none : (xs : List Item) → all_empty xs ≡ true → xs ≡ replicate (length xs) none
 empty_none [] h = refl
