@@ -1,9 +1,9 @@
-use Rattle.std.proofs.Common.{◌≡◌, ℕ, zero, suc, ◌+◌, ◌*◌, ◌<◌, ◌≤◌, Bool, true, false, ◌&&◌, eqb, ◌⊎◌, List, [], ◌∷◌, ◌++◌, length, get_or, Decides, sym, refl, ap, ◌∙◌, subst, inl, inr, ⊎_elim, suc-mul, arith}
+use Rattle.std.proofs.Common.{◌≡◌, ℕ, zero, suc, ◌+◌, ◌*◌, ◌<◌, ◌≤◌, Bool, true, false, eqb, ◌⊎◌, List, [], ◌∷◌, ◌++◌, length, get_or, Decides, sym, refl, ap, ◌∙◌, subst, inl, inr, ⊎_elim, suc-mul, arith}
 use Rattle.std.specs.List.{ContainsAt as Has, IsAnyAnswer}
 use Rattle.std.proofs.lemmas.List.{length_push, get_or_push, get_or_append_left, get_or_default}
 use Rattle.std.proofs.lemmas.List.Elements.{contains_decides}
 use Rattle.std.proofs.ByRecursion.{has_push, has_push_cases, has_append_left}
-use Rattle.std.proofs.lemmas.Bool.{cases_Bool, cases_lt, false≢true, and_parts, and_from, eqb-true, eq-eqb, cond-true, cond-false}
+use Rattle.std.proofs.lemmas.Bool.{cases_Bool, cases_lt, and_parts, and_from, eqb-true, eq-eqb, cond-true, cond-false}
 use Rattle.std.proofs.lemmas.Bool.Decides.{same_from_decides, Decides-by_or, not_from_Decides, Decides-like}
 use Rattle.std.proofs.lemmas.Slice.Eq.{slice_eq-Decides}
 use Rattle.abstraction.specs.Lists.{In}
@@ -12,8 +12,7 @@ use Rattle.abstraction.proofs.Room.{added_fits}
 use Rattle.ranking.specs.declared.Item.{Item}
 use Rattle.ranking.specs.declared.Region.{Region}
 use Rattle.ranking.specs.Items.{with_items}
-use Rattle.ranking.specs.Equal.{item_eq, region_eq}
-use Rattle.ranking.specs.Joined.{same_items, same_region, lists, join, repeat, Adds, Below}
+use Rattle.ranking.specs.Joined.{item_eq, same_region, lists, join, repeat, Adds, Below}
 
 made_of : ℕ → ℕ → Item
 made_of w r = record { whole = w; rank = r }
@@ -22,43 +21,24 @@ pub same_item : (a b : Item) → a.whole ≡ b.whole → a.rank ≡ b.rank → a
 unfolding made_of
 same_item a b p q = ap (λ w. made_of w a.rank) p ∙ ap (λ r. made_of b.whole r) q
 
-pub same_lists_of : (xs ys : List Item) → same_items xs ys ≡ true → xs ≡ ys
-same_lists_of [] [] h = refl
-same_lists_of [] (y ∷ ys) h = absurd (false≢true h)
-same_lists_of (x ∷ xs) [] h = absurd (false≢true h)
-same_lists_of (x ∷ xs) (y ∷ ys) h =
-    let p = and_parts (eqb x.whole y.whole && eqb x.rank y.rank) (same_items xs ys) h in
-    let q = and_parts (eqb x.whole y.whole) (eqb x.rank y.rank) p.0 in
-    let a = same_item x y (eqb-true _ _ q.0) (eqb-true _ _ q.1) in
-    let b = same_lists_of xs ys p.1 in
-    ap (λ z. z ∷ xs) a ∙ ap (λ zs. y ∷ zs) b
-
-pub same_self : (xs : List Item) → same_items xs xs ≡ true
-same_self [] = refl
-same_self (x ∷ xs) = and_from (eqb x.whole x.whole && eqb x.rank x.rank) _ (and_from (eqb x.whole x.whole) _ (eq-eqb _ _ refl) (eq-eqb _ _ refl)) (same_self xs)
-
 pub region_same : (a b : Region) → a.items ≡ b.items → a ≡ b
 region_same a b e = ap with_items e
 
--- the test on regions decides whether they are equal
-pub same_decides : (a b : Region) → Decides (same_region a b) (a ≡ b)
-same_decides a b = ((λ h. region_same a b (same_lists_of a.items b.items h)), λ e. subst (λ r. same_region a r ≡ true) e (same_self a.items))
-
-pub lists_decides : (xs : List Region) (r : Region) → Decides (lists xs r) (Has xs r)
-lists_decides xs r = Decides-by_or (λ x. same_region x r) (λ x. x ≡ r) (λ ys. lists ys r) (λ x. same_decides x r) refl (λ _ _. refl) xs
-
--- == of two items, and of two regions, decides whether they are equal
-pub item_eq_decides : (a b : Item) → Decides (item_eq a b) (a ≡ b)
-item_eq_decides a b = (
+-- the test on two items, and on two regions, decides whether they are equal
+item_decides : (a b : Item) → Decides (item_eq a b) (a ≡ b)
+item_decides a b = (
   (λ h. let p = and_parts (eqb a.whole b.whole) (eqb a.rank b.rank) h in same_item a b (eqb-true _ _ p.0) (eqb-true _ _ p.1)),
   λ e. subst (λ x. item_eq a x ≡ true) e (and_from (eqb a.whole a.whole) (eqb a.rank a.rank) (eq-eqb _ _ refl) (eq-eqb _ _ refl)),
 )
 
-pub region_eq_decides : (a b : Region) → Decides (region_eq a b) (a ≡ b)
-region_eq_decides a b = Decides-like (region_eq a b) (region_same a b) (λ e. ap (λ r. r.items) e) (slice_eq-Decides item_eq_decides a.items b.items (region_eq a b) refl)
+pub same_decides : (a b : Region) → Decides (same_region a b) (a ≡ b)
+same_decides a b = Decides-like (same_region a b) (region_same a b) (λ e. ap (λ r. r.items) e) (slice_eq-Decides item_decides a.items b.items (same_region a b) refl)
 
-pub contains_lists : (xs : List Region) (r : Region) (b : Bool) → IsAnyAnswer (λ y t. region_eq y r ≡ t) xs b → b ≡ lists xs r
-contains_lists xs r b h = same_from_decides b (lists xs r) (contains_decides region_eq region_eq_decides xs r b h) (lists_decides xs r)
+pub lists_decides : (xs : List Region) (r : Region) → Decides (lists xs r) (Has xs r)
+lists_decides xs r = Decides-by_or (λ x. same_region x r) (λ x. x ≡ r) (λ ys. lists ys r) (λ x. same_decides x r) refl (λ _ _. refl) xs
+
+pub contains_lists : (xs : List Region) (r : Region) (b : Bool) → IsAnyAnswer (λ y t. same_region y r ≡ t) xs b → b ≡ lists xs r
+contains_lists xs r b h = same_from_decides b (lists xs r) (contains_decides same_region same_decides xs r b h) (lists_decides xs r)
 
 place : {X : Type 0} (xs : List X) (x : X) (i : ℕ) (d : X) → i < length (xs ++ x ∷ []) → ((i < length xs) × (get_or (xs ++ x ∷ []) i d ≡ get_or xs i d)) ⊎ ((i ≡ length xs) × (get_or (xs ++ x ∷ []) i d ≡ x))
 place xs x i d lt =

@@ -17,9 +17,13 @@ rank_at xs i = (slice_index_or xs i none).rank
 abbrev pub with_items : List Item → Region
 with_items xs = record { items = xs }
 
+-- the clocks that count
+abbrev pub clocks_of : Scope → ℕ
+clocks_of w = min w.clocks 3
+
 -- how many items are in use
 abbrev pub places : Scope → ℕ
-places w = 2 * min w.clocks 3 + 3
+places w = 2 * clocks_of w + 3
 
 -- the greatest whole part that is told apart, item by item
 abbrev pub ceiling : Scope → ℕ → ℕ

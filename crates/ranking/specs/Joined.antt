@@ -1,17 +1,18 @@
-use Rattle.std.specs.Prelude.{◌≡◌, ℕ, zero, suc, ◌+◌, ◌<◌, ◌≤◌, Bool, true, false, cond, ◌&&◌, ◌||◌, ◌⊎◌, List, [], ◌∷◌, length, ◌==◌, slice_index_or}
+use Rattle.std.specs.Prelude.{◌≡◌, ℕ, zero, suc, ◌+◌, ◌<◌, ◌≤◌, Bool, false, cond, ◌||◌, ◌⊎◌, List, [], ◌∷◌, length, ◌==◌, slice_index_or}
+use Rattle.std.specs.Ordering.{on, eq_of_both}
+use Rattle.std.specs.Cmp.Lexicographic.{pointwise}
 use Rattle.abstraction.specs.Lists.{In}
 use Rattle.abstraction.specs.Room.{added}
 use Rattle.ranking.specs.declared.Item.{Item}
 use Rattle.ranking.specs.declared.Region.{Region}
 
-abbrev pub same_items : List Item → List Item → Bool
-same_items [] [] = true
-same_items [] (y ∷ ys) = false
-same_items (x ∷ xs) [] = false
-same_items (x ∷ xs) (y ∷ ys) = (x.whole == y.whole && x.rank == y.rank) && same_items xs ys
+-- whether two items have the same whole part and the same rank
+abbrev pub item_eq : Item → Item → Bool
+item_eq = eq_of_both (on (λ x. x.whole) ◌==◌) (on (λ x. x.rank) ◌==◌)
 
+-- and two regions, item by item
 abbrev pub same_region : Region → Region → Bool
-same_region a b = same_items a.items b.items
+same_region = on (λ r. r.items) (pointwise item_eq)
 
 -- whether a region is listed
 abbrev pub lists : List Region → Region → Bool

@@ -1,6 +1,5 @@
 pub mod Ranks
 pub mod Items
-pub mod Equal
 pub mod Lawful
 pub mod Close
 pub mod Rotation

@@ -5,65 +5,46 @@
 
 ghost use Rattle.std.specs.Prelude.{◌≡◌, ℕ, ◌+◌, ◌<◌, ◌≤◌, Bool, true, List, ◌++◌, map, length, Decides, nat_eq};
 ghost use Rattle.abstraction.specs.Room.{shapes as shapes_of};
-ghost use Rattle.ranking.specs.Items.{places, ceiling as ceiling_of, each};
+ghost use Rattle.ranking.specs.Items.{clocks_of, places, ceiling as ceiling_of, each};
 ghost use Rattle.ranking.specs.Close.{has_rank, lesser, over, next_rank, steps, shut_item, shut, closed as closed_up};
 ghost use Rattle.ranking.specs.Rotation.{has_zero, greatest, raised, fallen, rotated, turned as turned_once};
 ghost use Rattle.ranking.specs.Joined.{lists, join as joined};
-ghost use Rattle.ranking.specs.Equal.{item_eq, item_eq_laws, region_eq, region_eq_laws};
 
 use abstraction::{Listing, Scope};
 
 // A whole part, and the rank of the fraction: 0 for none, and from 1 on in the order of the fractions.
-#[derive(Clone, Copy)]
+#[derive(Clone, Copy, PartialEq, Eq, Debug)]
 pub struct Item {
     pub whole: u8,
     pub rank: u8,
 }
 
-impl PartialEq for Item {
-    ghost eq = { item_eq };
-
-    ghost laws = { item_eq_laws };
-
-    fn eq(&self, other: &Item) -> bool
-        ensures value { result ≡ item_eq self.now other.now }
-        ensures decides { Decides result (self.now ≡ other.now) }
-    {
-        self.whole == other.whole && self.rank == other.rank
-    }
+impl Item {
+    // No whole part and no fraction.
+    pub const NONE: Item = Item { whole: 0, rank: 0 };
 }
 
 // The items of a frame: the clocks, the age, the kept clocks, the kept age and the time elapsed. Places
 // past those hold no whole part and no fraction.
-#[derive(Clone, Copy)]
+#[derive(Clone, Copy, Debug, PartialEq, Eq)]
 pub struct Region {
     pub items: [Item; 9],
 }
 
-impl PartialEq for Region {
-    ghost eq = { region_eq };
-
-    ghost laws = { region_eq_laws };
-
-    fn eq(&self, other: &Region) -> bool
-        ensures value { result ≡ region_eq self.now other.now }
-        ensures decides { Decides result (self.now ≡ other.now) }
-    {
-        self.items == other.items
-    }
+// How many clocks a scope has; of more than 3, 3 count.
+pub fn clocks_in_use(scope: Scope) -> usize
+    ensures value { result ≡ clocks_of scope }
+    ensures few { result ≤ 3 }
+{
+    scope.clocks.min(3) as usize
 }
 
-// How many items a frame has; of more than 3 clocks, 3 count.
+// How many items a frame has.
 pub fn items_in_use(scope: Scope) -> usize
     ensures value { result ≡ places scope }
     ensures few { result ≤ 9 }
 {
-    let clocks = if scope.clocks < 3 {
-        scope.clocks as usize
-    } else {
-        3
-    };
-    2 * clocks + 3
+    2 * clocks_in_use(scope) + 3
 }
 
 // The greatest whole part that is told apart at a place.
@@ -71,7 +52,7 @@ pub fn ceiling(scope: Scope, place: usize) -> u8
     ensures value { result ≡ ceiling_of scope place }
     ensures small { result ≤ 15 }
 {
-    if scope.top < 15 { scope.top as u8 } else { 15 }
+    scope.top.min(15) as u8
 }
 
 // Whether some item has no fraction.
