@@ -5,9 +5,9 @@ use Rattle.abstraction.proofs.Tests.{fits_true}
 use Rattle.abstraction.specs.declared.interval.Interval.{Interval}
 use Rattle.abstraction.specs.declared.scope.Scope.{Scope}
 use Rattle.ranking.specs.declared.Region.{Region}
-use Rattle.ranking.specs.Items.{none}
+use Rattle.ranking.specs.Items.{clocks_of, none}
 use Rattle.merging.specs.Pop.{pops}
-use Rattle.region.specs.Asked.{lawful, lies_in, asks, clocks_of, pop_asks}
+use Rattle.region.specs.Asked.{lawful, lies_in, asks, pop_asks}
 use Rattle.region.specs.Listed.{rotations, fill, opened}
 use Rattle.region.specs.Laws.{Asks, ListsNothing}
 use Rattle.region.specs.Shapes.{lawful_holds}

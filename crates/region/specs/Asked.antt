@@ -7,7 +7,7 @@ use Rattle.abstraction.specs.declared.interval.Upper.TheVariants.{Upto, Under, U
 use Rattle.abstraction.specs.declared.scope.Scope.{Scope}
 use Rattle.ranking.specs.declared.Item.{Item}
 use Rattle.ranking.specs.declared.Region.{Region}
-use Rattle.ranking.specs.Items.{none, places, ceiling}
+use Rattle.ranking.specs.Items.{none, clocks_of, places, ceiling}
 use Rattle.ranking.specs.Lawful.{front}
 use Rattle.ranking.specs.Close.{closed}
 use Rattle.ranking.specs.Joined.{same_region}
@@ -45,10 +45,6 @@ lies_in i x = above i.lower i.strict x && below i.upper x
 -- the question is about a lawful region, a clock that is there and bounds up to top
 abbrev pub asks : Scope → ℕ → Interval → Region → Bool
 asks w k i r = lawful w r && (nat_lt k w.clocks && fits w.top i)
-
--- the clocks that count
-abbrev pub clocks_of : Scope → ℕ
-clocks_of w = min w.clocks 3
 
 -- the question is about lawful regions and bounds up to top, and the age above lies in them
 abbrev pub pop_asks : Scope → Interval → Region → Region → Bool

@@ -13,7 +13,7 @@ use Rattle.abstraction.specs.declared.scope.Scope.{Scope}
 use Rattle.ranking.specs.declared.Item.{Item}
 use Rattle.ranking.specs.declared.Region.{Region}
 use Rattle.ranking.specs.Ranks.{Ranks}
-use Rattle.ranking.specs.Items.{none, whole_at, rank_at, places, ceiling, with_items, Holds}
+use Rattle.ranking.specs.Items.{clocks_of, none, whole_at, rank_at, places, ceiling, with_items, Holds}
 use Rattle.ranking.specs.Lawful.{front, Lawful, Lies}
 use Rattle.ranking.specs.Close.{shut}
 use Rattle.ranking.specs.Rotation.{turned_by}
@@ -21,7 +21,7 @@ use Rattle.ranking.proofs.Steps.{unique, ranks_same}
 use Rattle.ranking.proofs.Close.{shut_ranks, shut_whole, length_shut}
 use Rattle.ranking.proofs.Lists.{time_covers}
 use Rattle.ranking.proofs.Joined.{same_item}
-use Rattle.region.specs.Asked.{lawful, lies_in, asks, clocks_of}
+use Rattle.region.specs.Asked.{lawful, lies_in, asks}
 use Rattle.region.specs.Listed.{start, time, test, assign, source, opened, push}
 use Rattle.region.specs.Laws.{Owed, values, items_of, region_of, covers, CoveredOnce}
 use Rattle.region.specs.Shapes.{few_places, front_long, same_front, lawful_only}

@@ -13,7 +13,7 @@ use Rattle.abstraction.specs.declared.scope.Scope.{Scope}
 use Rattle.ranking.specs.declared.Item.{Item}
 use Rattle.ranking.specs.declared.Region.{Region}
 use Rattle.ranking.specs.Ranks.{Ranks}
-use Rattle.ranking.specs.Items.{none, whole_at, rank_at, places, ceiling, with_items}
+use Rattle.ranking.specs.Items.{clocks_of, none, whole_at, rank_at, places, ceiling, with_items}
 use Rattle.ranking.specs.Lawful.{front, Shaped, Lawful}
 use Rattle.ranking.specs.Insert.{between}
 use Rattle.ranking.specs.Close.{shut}
@@ -24,7 +24,7 @@ use Rattle.ranking.proofs.Close.{shut_ranks, shut_whole, rank_few}
 use Rattle.ranking.proofs.Insert.{at_p, at_other, inserted, every_key}
 use Rattle.ranking.proofs.Lists.{rank_le, greatest_le}
 use Rattle.ranking.proofs.Joined.{same_item, join_adds, repeat_adds, adds_none, adds_like}
-use Rattle.region.specs.Asked.{lawful, above, below, lies_in, asks, clocks_of}
+use Rattle.region.specs.Asked.{lawful, above, below, lies_in, asks}
 use Rattle.region.specs.Listed.{doubled, spread, placed, placing, keys, fill_keys, fill, assign, source, opened, push}
 use Rattle.region.specs.Laws.{Exactly, Owed}
 use Rattle.region.specs.Shapes.{few_places, front_long, closed_front, closed_rest, closed_full, same_front, lawful_holds}

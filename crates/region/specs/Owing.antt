@@ -10,14 +10,14 @@ use Rattle.abstraction.proofs.Tests.{fits_from}
 use Rattle.abstraction.specs.declared.interval.Interval.{Interval}
 use Rattle.abstraction.specs.declared.scope.Scope.{Scope}
 use Rattle.ranking.specs.declared.Region.{Region}
-use Rattle.ranking.specs.Items.{none, places, ceiling}
+use Rattle.ranking.specs.Items.{clocks_of, none, places, ceiling}
 use Rattle.ranking.specs.Lawful.{front, Lawful}
 use Rattle.ranking.proofs.Joined.{same_decides}
 use Rattle.merging.specs.Pop.{pops}
 use Rattle.merging.specs.Law.{Pops, Popped}
 use Rattle.merging.proofs.Law.{pop_law}
 use Rattle.region.specs.declared.Regions.{Regions}
-use Rattle.region.specs.Asked.{lawful, lies_in, asks, clocks_of, pop_asks}
+use Rattle.region.specs.Asked.{lawful, lies_in, asks, pop_asks}
 use Rattle.region.specs.Listed.{time, test, assign, opened, push, pop}
 use Rattle.region.specs.Laws.{Exactly, Rotates, Owed, covers, values, ListsExactly, FramesOnce}
 use Rattle.region.specs.Regions.{regions, covering}

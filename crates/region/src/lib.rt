@@ -6,12 +6,12 @@
 ghost use Rattle.std.specs.Prelude.{◌≡◌, ℕ, ◌+◌, ◌<◌, ◌≤◌, min, Bool, true, ◌&&◌, List, [], ◌∷◌, ◌++◌, map, length, take, drop, slice_index_or, slice_set};
 ghost use Rattle.abstraction.specs.Owes.{Covers};
 ghost use Rattle.abstraction.specs.Room.{shapes as shapes_of};
-ghost use Rattle.ranking.specs.Items.{none, places, with_items, ceiling as ceiling_of};
+ghost use Rattle.ranking.specs.Items.{none, clocks_of, places, with_items, ceiling as ceiling_of};
 ghost use Rattle.ranking.specs.Lawful.{front};
 ghost use Rattle.ranking.specs.Close.{closed as closed_up};
 ghost use Rattle.ranking.specs.Rotation.{greatest};
 ghost use Rattle.ranking.specs.Joined.{same_region};
-ghost use Rattle.region.specs.Asked.{small as small_of, wholes_fit, all_empty, in_order, lawful as lawful_of, above as above_of, below as below_of, lies_in, asks as asking, clocks_of, pop_asks};
+ghost use Rattle.region.specs.Asked.{small as small_of, wholes_fit, all_empty, in_order, lawful as lawful_of, above as above_of, below as below_of, lies_in, asks as asking, pop_asks};
 ghost use Rattle.region.specs.Listed.{start as start_of, rounds as rounds_of, rotations as rotations_of, spread as spread_of, placed as placed_of, placing, doubled, keys as keys_of, fill_keys, fill as fill_of, source, opened as opened_of};
 ghost use Rattle.region.specs.Laws.{FramesOnce, ListsExactly, ListsNothing};
 ghost use Rattle.region.specs.Regions.{regions, covering};
@@ -19,21 +19,8 @@ ghost use Rattle.region.specs.Owing.{lists_lawfully};
 
 use abstraction::{Abstraction, Interval, Listing, Scope, Upper};
 use merging::pops;
-use ranking::{Item, Region, ceiling, closed, items_in_use, join, top_rank, turned};
+use ranking::{Item, Region, ceiling, clocks_in_use, closed, items_in_use, join, top_rank, turned};
 use std::array::from_fn;
-
-const EMPTY: Item = Item { whole: 0, rank: 0 };
-
-fn clocks_in_use(scope: Scope) -> usize
-    ensures value { result ≡ clocks_of scope }
-    ensures few { result ≤ 3 }
-{
-    if scope.clocks < 3 {
-        scope.clocks as usize
-    } else {
-        3
-    }
-}
 
 fn small(scope: Scope) -> bool
     ensures { result ≡ small_of scope }
@@ -68,7 +55,7 @@ fn inside(interval: Interval, item: Item) -> bool
 fn item_at(region: Region, place: usize) -> Item
     ensures { result ≡ slice_index_or region.items place none }
 {
-    region.items.get(place).copied().unwrap_or(EMPTY)
+    region.items.get(place).copied().unwrap_or(Item::NONE)
 }
 
 fn with_item(region: Region, place: usize, item: Item) -> Region
@@ -124,7 +111,7 @@ impl Scoped {
             .items
             .iter()
             .skip(items_in_use(self.scope))
-            .all(|item| *item == EMPTY)
+            .all(|item| *item == Item::NONE)
     }
 
     fn in_order(self) -> bool
@@ -202,7 +189,7 @@ impl Scoped {
         } else if clocks < place && place < 2 * clocks + 2 {
             item_at(self.region, place - (clocks + 1))
         } else {
-            EMPTY
+            Item::NONE
         }
     }
 
@@ -324,7 +311,9 @@ impl Abstraction for Regions {
 
     // The region of all values 0.
     fn start(&self, scope: Scope) -> Region {
-        Region { items: [EMPTY; 9] }
+        Region {
+            items: [Item::NONE; 9],
+        }
     }
 
     // Each region after zero or more rotations.
@@ -420,12 +409,28 @@ mod tests {
         let later = Item { whole: 0, rank: 1 };
         let below = Region {
             items: [
-                EMPTY, EMPTY, later, later, later, EMPTY, EMPTY, EMPTY, EMPTY,
+                Item::NONE,
+                Item::NONE,
+                later,
+                later,
+                later,
+                Item::NONE,
+                Item::NONE,
+                Item::NONE,
+                Item::NONE,
             ],
         };
         let above = Region {
             items: [
-                later, EMPTY, EMPTY, EMPTY, EMPTY, EMPTY, EMPTY, EMPTY, EMPTY,
+                later,
+                Item::NONE,
+                Item::NONE,
+                Item::NONE,
+                Item::NONE,
+                Item::NONE,
+                Item::NONE,
+                Item::NONE,
+                Item::NONE,
             ],
         };
         let mut out = Listing::new(rt.alloc())?;
