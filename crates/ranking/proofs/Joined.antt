@@ -1,10 +1,9 @@
-use Rattle.std.proofs.Common.{◌≡◌, ℕ, zero, suc, ◌+◌, ◌*◌, ◌<◌, ◌≤◌, Bool, true, false, eqb, ◌⊎◌, List, [], ◌∷◌, ◌++◌, length, get_or, Decides, sym, refl, ap, ◌∙◌, subst, inl, inr, ⊎_elim, suc-mul, arith}
-use Rattle.std.specs.List.{ContainsAt as Has, IsAnyAnswer}
+use Rattle.std.proofs.Common.{◌≡◌, ℕ, zero, suc, ◌+◌, ◌*◌, ◌<◌, ◌≤◌, true, false, eqb, ◌⊎◌, List, [], ◌∷◌, ◌++◌, length, get_or, Decides, sym, refl, ap, ◌∙◌, subst, inl, inr, ⊎_elim, suc-mul, arith}
+use Rattle.std.specs.List.{ContainsAt as Has}
 use Rattle.std.proofs.lemmas.List.{length_push, get_or_push, get_or_append_left, get_or_default}
-use Rattle.std.proofs.lemmas.List.Elements.{contains_decides}
 use Rattle.std.proofs.ByRecursion.{has_push, has_push_cases, has_append_left}
 use Rattle.std.proofs.lemmas.Bool.{cases_Bool, cases_lt, and_parts, and_from, eqb-true, eq-eqb, cond-true, cond-false}
-use Rattle.std.proofs.lemmas.Bool.Decides.{same_from_decides, Decides-by_or, not_from_Decides, Decides-like}
+use Rattle.std.proofs.lemmas.Bool.Decides.{Decides-by_or, not_from_Decides, Decides-like}
 use Rattle.std.proofs.lemmas.Slice.Eq.{slice_eq-Decides}
 use Rattle.abstraction.specs.Lists.{In}
 use Rattle.abstraction.specs.Room.{added}
@@ -36,9 +35,6 @@ same_decides a b = Decides-like (same_region a b) (region_same a b) (λ e. ap (�
 
 pub lists_decides : (xs : List Region) (r : Region) → Decides (lists xs r) (Has xs r)
 lists_decides xs r = Decides-by_or (λ x. same_region x r) (λ x. x ≡ r) (λ ys. lists ys r) (λ x. same_decides x r) refl (λ _ _. refl) xs
-
-pub contains_lists : (xs : List Region) (r : Region) (b : Bool) → IsAnyAnswer (λ y t. same_region y r ≡ t) xs b → b ≡ lists xs r
-contains_lists xs r b h = same_from_decides b (lists xs r) (contains_decides same_region same_decides xs r b h) (lists_decides xs r)
 
 place : {X : Type 0} (xs : List X) (x : X) (i : ℕ) (d : X) → i < length (xs ++ x ∷ []) → ((i < length xs) × (get_or (xs ++ x ∷ []) i d ≡ get_or xs i d)) ⊎ ((i ≡ length xs) × (get_or (xs ++ x ∷ []) i d ≡ x))
 place xs x i d lt =

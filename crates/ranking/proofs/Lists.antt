@@ -1,8 +1,9 @@
-use Rattle.std.proofs.Common.{◌≡◌, ℕ, zero, suc, ◌+◌, ◌/◌, ◌%◌, ◌<◌, ◌≤◌, min, true, false, List, [], ◌∷◌, map, length, get_or, sym, refl, ap, ◌∙◌, ⊎_elim, suc-add, zero-add, add-one, arith}
+use Rattle.std.proofs.Common.{◌≡◌, ℕ, zero, suc, ◌+◌, ◌/◌, ◌%◌, ◌<◌, ◌≤◌, min, true, false, eqb, List, map, length, get_or, sym, refl, ap, ◌∙◌, ⊎_elim, suc-add, zero-add, add-one, arith}
 use Rattle.std.proofs.lemmas.Nat.{mod_below}
-use Rattle.std.proofs.lemmas.List.{length-map, get_or-map}
-use Rattle.std.proofs.lemmas.Bool.{cond-true, cond-false, cases_Bool, cases_eq, false≢true}
-use Rattle.std.proofs.lemmas.Bool.Decides.{nat_tests}
+use Rattle.std.proofs.lemmas.List.{length-map, get_or-map, get_or_default}
+use Rattle.std.proofs.lemmas.List.Folds.{list_any_at, Any-from_list_any}
+use Rattle.std.proofs.lemmas.List.Recursion.{max_bounds, max_least}
+use Rattle.std.proofs.lemmas.Bool.{cond-true, cond-false, cases_Bool, eqb-true, eq-eqb}
 use Rattle.ranking.specs.declared.Item.{Item}
 use Rattle.ranking.specs.Rotation.{has_zero, greatest, raised, fallen, rotated, turns}
 use Rattle.ranking.specs.Ranks.{Held, Past}
@@ -14,28 +15,19 @@ use Rattle.ranking.proofs.Close.{rank_few}
 use Rattle.ranking.proofs.Steps.{ranks_same, risen, none_whole, later_inside, later_over, find}
 
 pub zero_from : (xs : List Item) (i : ℕ) → i < length xs → rank_at xs i ≡ 0 → has_zero xs ≡ true
-zero_from [] i lt e = absurd (omega arith)
-zero_from (x ∷ xs) zero lt e = grind (arith, nat_tests)
-zero_from (x ∷ xs) (suc i) lt e = let h = zero_from xs i (omega arith) e in grind (arith, nat_tests)
+zero_from xs i lt e = list_any_at (λ x. eqb x.rank 0) xs i none lt (eq-eqb _ _ e)
 
 pub no_zero : (xs : List Item) → has_zero xs ≡ false → (i : ℕ) → i < length xs → 1 ≤ rank_at xs i
 no_zero xs e i lt = let h = zero_from xs i lt in grind arith
 
 pub rank_le : (xs : List Item) (i : ℕ) → i < length xs → rank_at xs i ≤ greatest xs
-rank_le [] i lt = omega arith
-rank_le (x ∷ xs) zero lt = omega arith
-rank_le (x ∷ xs) (suc i) lt = omega (arith, rank_le xs i (omega arith))
+rank_le xs i lt = max_bounds greatest (λ x. x.rank) refl (λ _ _. refl) xs i none lt
 
 pub greatest_le : (xs : List Item) (b : ℕ) → ((i : ℕ) → i < length xs → rank_at xs i ≤ b) → greatest xs ≤ b
-greatest_le [] b h = omega arith
-greatest_le (x ∷ xs) b h = omega (arith, greatest_le xs b (λ i lt. h (suc i) (omega arith)), h 0 (omega arith))
+greatest_le xs b h = max_least greatest (λ x. x.rank) refl (λ _ _. refl) xs none b h
 
 pub zero_at : (xs : List Item) → has_zero xs ≡ true → (i : ℕ) × (i < length xs) × (rank_at xs i ≡ 0)
-zero_at [] e = absurd (false≢true e)
-zero_at (x ∷ xs) e =
-    ⊎_elim (λ (h : x.rank ≡ 0). (0, omega arith, h))
-    (λ (n : x.rank ≡ 0 → ⊥). let t = zero_at xs (grind (arith, nat_tests)) in (suc t.0, omega arith, t.2))
-    (cases_eq x.rank 0)
+zero_at xs e = let h = Any-from_list_any (λ x. eqb x.rank 0) xs e in (h.0, h.2, ap (λ x. x.rank) (get_or_default xs h.0 none h.1 h.2 ∙ h.3) ∙ eqb-true _ _ h.4)
 
 -- a rotation, item by item
 pub turn_up : (c : ℕ → ℕ) (xs : List Item) → has_zero xs ≡ true → rotated c xs ≡ map raised xs
@@ -52,10 +44,6 @@ at_up c xs e i lt = ap (λ ys. get_or ys i none) (turn_up c xs e) ∙ get_or-map
 
 pub at_over : (c : ℕ → ℕ) (xs : List Item) → has_zero xs ≡ false → (i : ℕ) → i < length xs → get_or (rotated c xs) i none ≡ fallen c (greatest xs) i (get_or xs i none)
 at_over c xs e i lt = ap (λ ys. get_or ys i none) (turn_over c xs e) ∙ getD_each (fallen c (greatest xs)) 0 xs i none lt ∙ ap (λ n. fallen c (greatest xs) n (get_or xs i none)) (zero-add i)
-
-pub length_turns : (n : ℕ) (c : ℕ → ℕ) (xs : List Item) → length (turns n c xs) ≡ length xs
-length_turns zero c xs = refl
-length_turns (suc n) c xs = length_rotated c (turns n c xs) ∙ length_turns n c xs
 
 -- past the values vs by half a unit
 record HalfPast (m : ℕ) (c : ℕ → ℕ) (D : ℕ) (xs : List Item) (vs : List ℕ) : Type 0 where

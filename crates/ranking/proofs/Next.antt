@@ -1,18 +1,29 @@
-use Rattle.std.proofs.Common.{◌≡◌, ℕ, zero, suc, ◌+◌, ◌<◌, ◌≤◌, min, Bool, true, false, cond, ltb, List, [], ◌∷◌, Some, None, Option, refl, ap, subst, ⊎_elim, arith}
-use Rattle.std.proofs.lemmas.Bool.{cases_lt, ltb-true, ltb-false}
+use Rattle.std.proofs.Common.{◌≡◌, ℕ, zero, suc, ◌+◌, ◌<◌, ◌≤◌, min, Bool, true, false, cond, ltb, List, [], ◌∷◌, map, filter, fold, Some, None, Option, sym, refl, ap, ◌∙◌, subst, ⊎_elim, arith}
+use Rattle.std.specs.List.{reduce}
+use Rattle.std.proofs.lemmas.Bool.{cases_Bool, cases_lt, ltb-true, ltb-false}
 use Rattle.std.proofs.lemmas.Bool.Decides.{nat_tests}
 use Rattle.ranking.specs.declared.Item.{Item}
 use Rattle.ranking.specs.Close.{has_rank, lesser, next_rank, steps}
 
-pub lesser_assoc : (a b c : Option ℕ) → lesser (lesser a b) c ≡ lesser a (lesser b c)
+lesser_assoc : (a b c : Option ℕ) → lesser (lesser a b) c ≡ lesser a (lesser b c)
 lesser_assoc None b c = refl
 lesser_assoc (Some k) None c = refl
 lesser_assoc (Some k) (Some l) None = refl
 lesser_assoc (Some k) (Some l) (Some n) = let e : min (min k l) n ≡ min k (min l n) = omega arith in ap Some e
 
-pub lesser_none : (a : Option ℕ) → lesser a None ≡ a
-lesser_none None = refl
-lesser_none (Some k) = refl
+least_first : (k : ℕ) (ks : List ℕ) → Some (fold min k ks) ≡ lesser (Some k) (reduce min ks)
+least_first k [] = refl
+least_first k (l ∷ ks) = least_first (min k l) ks ∙ lesser_assoc (Some k) (Some l) (reduce min ks) ∙ ap (lesser (Some k)) (sym (least_first l ks))
+
+-- the least of the ranks above a
+pub least_next : (xs : List Item) (a : ℕ) → reduce min (filter (ltb a) (map (λ x. x.rank) xs)) ≡ next_rank xs a
+least_next [] a = refl
+least_next (x ∷ xs) a =
+    let rest = filter (ltb a) (map (λ x. x.rank) xs) in
+    ⊎_elim
+    (λ (t : ltb a x.rank ≡ true). rw t (least_first x.rank rest ∙ ap (lesser (Some x.rank)) (least_next xs a)))
+    (λ (f : ltb a x.rank ≡ false). rw f (least_next xs a))
+    (cases_Bool (ltb a x.rank))
 
 -- what is above a and in use, and nothing between
 abbrev Found : List Item → ℕ → Option ℕ → Type 0

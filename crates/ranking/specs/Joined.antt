@@ -1,5 +1,6 @@
-use Rattle.std.specs.Prelude.{◌≡◌, ℕ, zero, suc, ◌+◌, ◌<◌, ◌≤◌, Bool, false, cond, ◌||◌, ◌⊎◌, List, [], ◌∷◌, length, ◌==◌, slice_index_or}
+use Rattle.std.specs.Prelude.{◌≡◌, ℕ, zero, suc, ◌+◌, ◌<◌, ◌≤◌, Bool, cond, ◌⊎◌, List, length, ◌==◌, slice_index_or}
 use Rattle.std.specs.Ordering.{on, eq_of_both}
+use Rattle.std.specs.List.{list_any}
 use Rattle.std.specs.Cmp.Lexicographic.{pointwise}
 use Rattle.abstraction.specs.Lists.{In}
 use Rattle.abstraction.specs.Room.{added}
@@ -16,8 +17,7 @@ same_region = on (λ r. r.items) (pointwise item_eq)
 
 -- whether a region is listed
 abbrev pub lists : List Region → Region → Bool
-lists [] r = false
-lists (x ∷ xs) r = same_region x r || lists xs r
+lists xs r = list_any (λ x. same_region x r) xs
 
 -- one region more, unless it is listed
 abbrev pub join : List Region → Region → List Region

@@ -1,12 +1,12 @@
-use Rattle.std.specs.Prelude.{ℕ, zero, suc, ◌+◌, min, max, Bool, false, cond, ◌||◌, List, [], ◌∷◌, ◌++◌, map, take, drop, ◌==◌}
+use Rattle.std.specs.Prelude.{ℕ, zero, suc, ◌+◌, min, max, Bool, cond, List, [], ◌∷◌, ◌++◌, map, take, drop, ◌==◌}
+use Rattle.std.specs.List.{list_any}
 use Rattle.ranking.specs.declared.Item.{Item}
 use Rattle.ranking.specs.declared.Region.{Region}
 use Rattle.ranking.specs.Items.{each, with_items}
 
 -- whether some item has no fraction
 abbrev pub has_zero : List Item → Bool
-has_zero [] = false
-has_zero (x ∷ xs) = x.rank == 0 || has_zero xs
+has_zero = list_any (λ x. x.rank == 0)
 
 -- the greatest rank
 abbrev pub greatest : List Item → ℕ

@@ -3,12 +3,12 @@
 // Items with whole parts and ranked fractions, and regions of them: their rotation, the closing up of
 // their ranks, and lists that hold each region once.
 
-ghost use Rattle.std.specs.Prelude.{◌≡◌, ℕ, ◌+◌, ◌<◌, ◌≤◌, Bool, true, List, ◌++◌, map, length, Decides, nat_eq};
+ghost use Rattle.std.specs.Prelude.{◌≡◌, ◌≤◌, map};
 ghost use Rattle.abstraction.specs.Room.{shapes as shapes_of};
-ghost use Rattle.ranking.specs.Items.{clocks_of, places, ceiling as ceiling_of, each};
-ghost use Rattle.ranking.specs.Close.{has_rank, lesser, over, next_rank, steps, shut_item, shut, closed as closed_up};
-ghost use Rattle.ranking.specs.Rotation.{has_zero, greatest, raised, fallen, rotated, turned as turned_once};
-ghost use Rattle.ranking.specs.Joined.{lists, join as joined};
+ghost use Rattle.ranking.specs.Items.{clocks_of, places, ceiling as ceiling_of};
+ghost use Rattle.ranking.specs.Close.{has_rank, next_rank, steps, shut_item, closed as closed_up};
+ghost use Rattle.ranking.specs.Rotation.{has_zero, greatest, fallen, rotated, turned as turned_once};
+ghost use Rattle.ranking.specs.Joined.{join as joined};
 
 use abstraction::{Listing, Scope};
 
@@ -28,6 +28,7 @@ impl Item {
 // past those hold no whole part and no fraction.
 #[derive(Clone, Copy, Debug, PartialEq, Eq)]
 pub struct Region {
+    // Nine in place, so that a shape is copied and no call allocates.
     pub items: [Item; 9],
 }
 
@@ -59,43 +60,14 @@ pub fn ceiling(scope: Scope, place: usize) -> u8
 fn some_whole(items: &[Item]) -> bool
     ensures { result ≡ has_zero items.now }
 {
-    for item in items {
-        if item.rank == 0 {
-            return true;
-        }
-    }
-    false
+    items.iter().any(|item| item.rank == 0)
 }
 
 // The greatest rank.
 pub fn top_rank(items: &[Item]) -> u8
     ensures { result ≡ greatest items.now }
 {
-    let mut most = 0;
-    for item in items {
-        if item.rank > most {
-            most = item.rank;
-        }
-    }
-    most
-}
-
-fn raise(item: Item) -> Item
-    ensures { result ≡ raised item }
-{
-    let rank = if item.rank < 255 { item.rank + 1 } else { 255 };
-    Item {
-        whole: item.whole,
-        rank,
-    }
-}
-
-fn raise_each(items: &mut [Item])
-    ensures { items.new ≡ map raised items.old }
-{
-    for item in items.iter_mut() {
-        *item = raise(*item);
-    }
+    items.iter().map(|item| item.rank).max().unwrap_or(0)
 }
 
 // An item of the greatest rank comes to its next whole part.
@@ -103,23 +75,12 @@ fn lower(scope: Scope, most: u8, place: usize, item: Item) -> Item
     ensures { result ≡ fallen (ceiling_of scope) most place item }
 {
     if item.rank == most {
-        let top = ceiling(scope, place);
-        let whole = if item.whole <= top {
-            item.whole + 1
-        } else {
-            top + 1
-        };
-        Item { whole, rank: 0 }
+        Item {
+            whole: item.whole.saturating_add(1).min(ceiling(scope, place) + 1),
+            rank: 0,
+        }
     } else {
         item
-    }
-}
-
-fn lower_each(items: &mut [Item], scope: Scope, most: u8)
-    ensures { items.new ≡ each (fallen (ceiling_of scope) most) 0 items.old }
-{
-    for i in 0..items.len() {
-        items[i] = lower(scope, most, i, items[i]);
     }
 }
 
@@ -128,10 +89,14 @@ pub fn rotate(items: &mut [Item], scope: Scope)
     ensures { items.new ≡ rotated (ceiling_of scope) items.old }
 {
     if some_whole(items) {
-        raise_each(items);
+        for item in items.iter_mut() {
+            item.rank = item.rank.saturating_add(1);
+        }
     } else {
         let most = top_rank(items);
-        lower_each(items, scope, most);
+        for (place, item) in items.iter_mut().enumerate() {
+            *item = lower(scope, most, place, *item);
+        }
     }
 }
 
@@ -145,28 +110,15 @@ pub fn turned(scope: Scope, region: Region) -> Region
     next
 }
 
-// The nearer of what was found and this rank, if it is above.
-fn nearer(above: u8, found: Option<u8>, rank: u8) -> Option<u8>
-    ensures { result ≡ lesser found (over above rank) }
-{
-    if rank <= above {
-        return found;
-    }
-    match found {
-        None => Some(rank),
-        Some(best) => { if best <= rank { Some(best) } else { Some(rank) } }
-    }
-}
-
 // The least rank in use above a given one.
 pub fn next_rank(items: &[Item], above: u8) -> Option<u8>
     ensures { result ≡ next_rank items.now above }
 {
-    let mut found = None;
-    for item in items {
-        found = nearer(above, found, item.rank);
-    }
-    found
+    items
+        .iter()
+        .map(|item| item.rank)
+        .filter(|rank| *rank > above)
+        .min()
 }
 
 // How many ranks from 1 to `rank` are in use.
@@ -185,20 +137,12 @@ fn ranks_to(items: &[Item], rank: u8) -> u8
     count
 }
 
-fn close_item(all: &[Item], item: Item) -> Item
-    ensures { result ≡ shut_item all.now item }
-{
-    Item {
-        whole: item.whole,
-        rank: ranks_to(all, item.rank),
-    }
-}
-
+// Closes up the ranks of the items among those of all.
 fn close_each(items: &mut [Item], all: &[Item])
     ensures { items.new ≡ map (shut_item all.now) items.old }
 {
     for item in items.iter_mut() {
-        *item = close_item(all, *item);
+        item.rank = ranks_to(all, item.rank);
     }
 }
 
@@ -212,17 +156,11 @@ pub fn closed(scope: Scope, region: Region) -> Region
     next
 }
 
-fn listed(out: &Listing<Region>, region: Region) -> bool
-    ensures { result ≡ lists (shapes_of out.now) region }
-{
-    out.shapes().contains(&region)
-}
-
 // Lists a region unless it is listed.
 pub fn join(out: &mut Listing<Region>, region: Region)
     ensures { shapes_of out.new ≡ joined (shapes_of out.old) region }
 {
-    if !listed(out, region) {
+    if !out.shapes().contains(&region) {
         out.add(region);
     }
 }
@@ -241,9 +179,15 @@ mod tests {
         let scope = Scope { clocks: 1, top: 1 };
         let mut items = [item(1, 1), item(0, 2), item(0, 0), item(0, 0), item(0, 0)];
         rotate(&mut items, scope);
-        assert!(rt; items == [item(1, 2), item(0, 3), item(0, 1), item(0, 1), item(0, 1)]);
+        assert_eq!(rt;
+            items,
+            [item(1, 2), item(0, 3), item(0, 1), item(0, 1), item(0, 1)]
+        );
         rotate(&mut items, scope);
-        assert!(rt; items == [item(1, 2), item(1, 0), item(0, 1), item(0, 1), item(0, 1)]);
+        assert_eq!(rt;
+            items,
+            [item(1, 2), item(1, 0), item(0, 1), item(0, 1), item(0, 1)]
+        );
     }
 
     // Past the ceiling the whole part stays, and the rank is kept.
@@ -252,14 +196,14 @@ mod tests {
         let scope = Scope { clocks: 0, top: 1 };
         let mut items = [item(2, 2), item(0, 1), item(2, 1)];
         rotate(&mut items, scope);
-        assert!(rt; items == [item(2, 0), item(0, 1), item(2, 1)]);
+        assert_eq!(rt; items, [item(2, 0), item(0, 1), item(2, 1)]);
     }
 
     #[test]
     fn closing(rt: HostRuntime) {
         let scope = Scope { clocks: 0, top: 1 };
         let mut region = Region {
-            items: [item(0, 0); 9],
+            items: [Item::NONE; 9],
         };
         region.items[0] = item(1, 5);
         region.items[1] = item(0, 2);
@@ -267,8 +211,8 @@ mod tests {
         assert_eq!(rt; next_rank(&region.items, 2), Some(5));
         assert_eq!(rt; next_rank(&region.items, 5), None);
         let next = closed(scope, region);
-        assert!(rt; next.items[0] == item(1, 2));
-        assert!(rt; next.items[1] == item(0, 1));
-        assert!(rt; next.items[2] == item(2, 2));
+        assert_eq!(rt; next.items[0], item(1, 2));
+        assert_eq!(rt; next.items[1], item(0, 1));
+        assert_eq!(rt; next.items[2], item(2, 2));
     }
 }

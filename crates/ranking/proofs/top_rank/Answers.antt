@@ -1,10 +1,12 @@
-use Rattle.std.proofs.Common.{arith}
-use Rattle.std.proofs.lemmas.List.{at_drop_more, at_drop_all}
+use Rattle.std.proofs.Common.{refl, arith, rules}
+use Rattle.std.proofs.lemmas.Grind.{common_steps}
+use Rattle.std.proofs.lemmas.List.Recursion.{max_bounds, max_least}
+use Rattle.ranking.specs.Items.{none}
 use Rattle.ranking.specs.Rotation.{greatest}
 use Rattle.ranking.proofs.top_rank.Goals as goal
 
-pub loop-item-preserved : goal.loop-item-preserved
-loop-item-preserved c = let e = at_drop_more greatest c.args.items.now c.loop-item.item-index (record { whole = 0; rank = 0 }) (omega arith) in grind arith
-
 pub returns : goal.returns
-returns c = let e = at_drop_all greatest c.args.items.now c.loop-item.item-index (omega arith) in omega arith
+returns c =
+    let bounds = max_bounds greatest (λ x. x.rank) refl (λ _ _. refl) c.args.items.now in
+    let least = max_least greatest (λ x. x.rank) refl (λ _ _. refl) c.args.items.now none c.unwrap_or.result (search rules) in
+    grind (arith, common_steps, bounds, least)
