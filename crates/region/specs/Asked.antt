@@ -1,4 +1,4 @@
-use Rattle.std.specs.Prelude.{ℕ, ◌+◌, min, Bool, true, not, ◌&&◌, ◌||◌, List, length, drop, ◌==◌, nat_le, nat_lt, slice_index_or}
+use Rattle.std.specs.Prelude.{ℕ, ◌+◌, Bool, true, not, ◌&&◌, ◌||◌, List, length, drop, ◌==◌, nat_le, nat_lt, slice_index_or}
 use Rattle.std.specs.List.{list_all, enumerate_from}
 use Rattle.abstraction.specs.Bounds.{fits}
 use Rattle.abstraction.specs.declared.interval.Interval.{Interval}
