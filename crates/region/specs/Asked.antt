@@ -1,4 +1,5 @@
-use Rattle.std.specs.Prelude.{ℕ, suc, ◌+◌, min, Bool, true, not, ◌&&◌, ◌||◌, List, [], ◌∷◌, length, drop, ◌==◌, nat_le, nat_lt, slice_index_or}
+use Rattle.std.specs.Prelude.{ℕ, ◌+◌, Bool, true, not, ◌&&◌, ◌||◌, List, length, drop, ◌==◌, nat_le, nat_lt, slice_index_or}
+use Rattle.std.specs.List.{list_all, enumerate_from}
 use Rattle.abstraction.specs.Bounds.{fits}
 use Rattle.abstraction.specs.declared.interval.Interval.{Interval}
 use Rattle.abstraction.specs.declared.interval.Upper.{Upper}
@@ -6,7 +7,7 @@ use Rattle.abstraction.specs.declared.interval.Upper.TheVariants.{Upto, Under, U
 use Rattle.abstraction.specs.declared.scope.Scope.{Scope}
 use Rattle.ranking.specs.declared.Item.{Item}
 use Rattle.ranking.specs.declared.Region.{Region}
-use Rattle.ranking.specs.Items.{none, places, ceiling}
+use Rattle.ranking.specs.Items.{none, clocks_of, places, ceiling}
 use Rattle.ranking.specs.Lawful.{front}
 use Rattle.ranking.specs.Close.{closed}
 use Rattle.ranking.specs.Joined.{same_region}
@@ -17,12 +18,10 @@ small w = nat_le w.clocks 3 && nat_le w.top 15
 
 -- each whole part is at most one above its ceiling, the places counted from k
 abbrev pub wholes_fit : (ℕ → ℕ) → ℕ → List Item → Bool
-wholes_fit c k [] = true
-wholes_fit c k (x ∷ xs) = nat_le x.whole (c k + 1) && wholes_fit c (suc k) xs
+wholes_fit c k xs = list_all (λ p. nat_le p.1.whole (c p.0 + 1)) (enumerate_from k xs)
 
 abbrev pub all_empty : List Item → Bool
-all_empty [] = true
-all_empty (x ∷ xs) = (x.whole == 0 && x.rank == 0) && all_empty xs
+all_empty xs = list_all (λ x. x.whole == 0 && x.rank == 0) xs
 
 -- closing up leaves the region as it is
 abbrev pub in_order : Scope → Region → Bool
@@ -46,10 +45,6 @@ lies_in i x = above i.lower i.strict x && below i.upper x
 -- the question is about a lawful region, a clock that is there and bounds up to top
 abbrev pub asks : Scope → ℕ → Interval → Region → Bool
 asks w k i r = lawful w r && (nat_lt k w.clocks && fits w.top i)
-
--- the clocks that count
-abbrev pub clocks_of : Scope → ℕ
-clocks_of w = min w.clocks 3
 
 -- the question is about lawful regions and bounds up to top, and the age above lies in them
 abbrev pub pop_asks : Scope → Interval → Region → Region → Bool

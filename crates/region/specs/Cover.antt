@@ -1,8 +1,7 @@
-use Rattle.std.specs.Prelude.{◌≡◌, ℕ, zero, suc, ◌+◌, ◌-◌, ◌/◌, ◌%◌, ◌<◌, ◌≤◌, min, true, ◌&&◌, List, [], ◌∷◌, length, get_or, take, replicate, ◌≢◌, nat_lt, slice_index, slice_index_or, slice_set, refl}
+use Rattle.std.specs.Prelude.{◌≡◌, ℕ, zero, suc, ◌+◌, ◌-◌, ◌/◌, ◌%◌, ◌<◌, ◌≤◌, min, true, List, [], ◌∷◌, length, get_or, take, replicate, ◌≢◌, slice_index, slice_index_or, slice_set, refl}
 use Rattle.std.proofs.Common.{sym, ap, ◌∙◌, subst, ⊎_elim, arith, add-zero, zero-add, length-append, length-set}
 use Rattle.std.proofs.Math.Nat.{zero-div, zero-mod}
-use Rattle.std.proofs.lemmas.List.{take_at, drop_at, ext_get_or, length-replicate, get_or-replicate, drop-replicate, get_or-take, get_or_past, get_or-set_same, get_or-set_other}
-use Rattle.std.proofs.lemmas.Bool.{cond-true, and_from, lt-ltb}
+use Rattle.std.proofs.lemmas.List.{take_at, drop_at, length-replicate, get_or-replicate, drop-replicate, get_or-take, get_or_past, get_or-set_same, get_or-set_other}
 use Rattle.abstraction.specs.Owes.{Small}
 use Rattle.abstraction.specs.Bounds.{Inside, Fits}
 use Rattle.abstraction.specs.Frames.{Frame, Framed, plus, zeros, later, assigned, pushed}
@@ -13,19 +12,18 @@ use Rattle.abstraction.specs.declared.scope.Scope.{Scope}
 use Rattle.ranking.specs.declared.Item.{Item}
 use Rattle.ranking.specs.declared.Region.{Region}
 use Rattle.ranking.specs.Ranks.{Ranks}
-use Rattle.ranking.specs.Items.{none, whole_at, rank_at, places, ceiling, with_items, Holds}
+use Rattle.ranking.specs.Items.{clocks_of, none, whole_at, rank_at, places, ceiling, with_items, Holds}
 use Rattle.ranking.specs.Lawful.{front, Lawful, Lies}
 use Rattle.ranking.specs.Close.{shut}
 use Rattle.ranking.specs.Rotation.{turned_by}
-use Rattle.ranking.proofs.Steps.{unique, ranks_same}
+use Rattle.ranking.proofs.Steps.{ranks_same}
 use Rattle.ranking.proofs.Close.{shut_ranks, shut_whole, length_shut}
 use Rattle.ranking.proofs.Lists.{time_covers}
-use Rattle.ranking.proofs.Joined.{same_item}
-use Rattle.region.specs.Asked.{lawful, lies_in, asks, clocks_of}
+use Rattle.region.specs.Asked.{lawful, lies_in}
 use Rattle.region.specs.Listed.{start, time, test, assign, source, opened, push}
 use Rattle.region.specs.Laws.{Owed, values, items_of, region_of, covers, CoveredOnce}
-use Rattle.region.specs.Shapes.{few_places, front_long, same_front, lawful_only}
-use Rattle.region.specs.Times.{turns_front, time_exactly}
+use Rattle.region.specs.Shapes.{few_places, front_long, same_front, same_ranked, lawful_only, asked}
+use Rattle.region.specs.Times.{turns_front, time_exactly, test_exactly}
 use Rattle.region.specs.Fills.{assign_exactly, push_exactly, opened_at, past_front}
 use Rattle.region.specs.ValuesLemmas.{length_values, values_later, values_zeros, values_clock, values_assigned, framed_pushed, values_age, values_pushed}
 use Rattle.region.specs.Span.{lies_from}
@@ -58,6 +56,14 @@ module _ (m : ℕ) (c : ℕ → ℕ) (D : ℕ) where
         };
       }
 
+-- the items that hold given values are those of no other list
+pub holds_alone : (m : ℕ) (c : ℕ → ℕ) (D : ℕ) (xs ys : List Item) (vs : List ℕ) → Holds m c D xs vs → Holds m c D ys vs → xs ≡ ys
+holds_alone m c D xs ys vs a b = same_ranked m (λ i. slice_index vs i % D) xs ys a.items b.items (λ i lt. a.each.wholes i lt ∙ sym (b.each.wholes i lt)) a.each.ranks b.each.ranks
+
+-- an item lies in each interval that its value lies in
+pub lies_held : (w : Scope) (D : ℕ) → 0 < D → (xs : List Item) (vs : List ℕ) (p : ℕ) (i : Interval) → w.top ≤ 15 → Holds (places w) (ceiling w) D xs vs → p < places w → Fits w.top i → Inside D i (slice_index vs p) → lies_in i (slice_index_or xs p none) ≡ true
+lies_held w D pos xs vs p i low h lt fit inside = lies_from w.top D (slice_index vs p) (slice_index_or xs p none) pos (h.each.wholes p lt ∙ omega arith) (h.each.ranks.zeros p lt) i fit inside
+
 module _ (m : ℕ) (c : ℕ → ℕ) (D : ℕ) (le : m ≤ 9) where
   -- values lie in their region
   pub region_lies : (vs : List ℕ) → length vs ≡ m → Lies m c D (region_of c D vs) vs
@@ -78,10 +84,7 @@ module _ (m : ℕ) (c : ℕ → ℕ) (D : ℕ) (le : m ≤ 9) where
 
   -- and in no other
   pub lies_alone : (r t : Region) (vs : List ℕ) → Lies m c D r vs → Lies m c D t vs → r ≡ t
-  lies_alone r t vs a b = same_front m r t a.shaped b.shaped
-      (ext_get_or none (front m r) (front m t) (a.holds.items ∙ sym b.holds.items)
-      (λ i lt. let l : i < m = omega (arith, a.holds.items) in
-      same_item (slice_index_or (front m r) i none) (slice_index_or (front m t) i none) (a.holds.each.wholes i l ∙ sym (b.holds.each.wholes i l)) (unique m _ _ _ a.holds.each.ranks b.holds.each.ranks i l)))
+  lies_alone r t vs a b = same_front m r t a.shaped b.shaped (holds_alone m c D (front m r) (front m t) vs a.holds b.holds)
 
 pub covered_once : (w : Scope) (D : ℕ) (f : Frame) → Small w → Framed w.clocks f → CoveredOnce w D f
 covered_once w D f s h =
@@ -151,6 +154,15 @@ wide m c D r vs le l =
           (past_front m r le l.shaped q);
     }
 
+-- items and values but at p chosen alike from those of a region agree
+off_along : (m : ℕ) (c : ℕ → ℕ) (D p : ℕ) (xs ys : List Item) (us vs : List ℕ) (σ : ℕ → ℕ) → ((j : ℕ) → c (σ j) ≡ c j) → Wide c D ys vs
+    → ((j : ℕ) → j < m → slice_index_or xs j none ≡ slice_index_or ys (σ j) none) → ((j : ℕ) → (j ≢ p) → slice_index us j ≡ slice_index vs (σ j)) → Off m c D p xs us
+off_along m c D p xs ys us vs σ flat wd at other = record {
+  wholes = λ j lj n. ap (λ x. x.whole) (at j lj) ∙ wd.wholes (σ j) ∙ ap (λ k. min (slice_index vs (σ j) / D) (k + 1)) (flat j) ∙ ap (λ x. min (x / D) (c j + 1)) (sym (other j n));
+  zeros = λ j lj n. let z = wd.zeros (σ j) in let a = ap (λ x. x.rank) (at j lj) in let o = ap (λ x. x % D) (other j n) in ((λ y. o ∙ z.0 (sym a ∙ y)), (λ y. a ∙ z.1 (sym o ∙ y)));
+  orders = λ j q lj lq nj nq. let z = wd.orders (σ j) (σ q) in let a = ap (λ x. x.rank) (at j lj) in let a' = ap (λ x. x.rank) (at q lq) in let o = ap (λ x. x % D) (other j nj) in let o' = ap (λ x. x % D) (other q nq) in (grind arith, grind arith);
+}
+
 module _ (w : Scope) (D : ℕ) (small : Small w) (pos : 0 < D) where
   abbrev m : ℕ
   m = places w
@@ -166,7 +178,6 @@ module _ (w : Scope) (D : ℕ) (small : Small w) (pos : 0 < D) where
   owed_values p base us i pm long off fit inside =
       let l = region_lies m c D le9 us long in
       let h = l.holds.each in
-      let s1 = small.1 in
       record {
         lawful = lies_lawful m c D le9 (region_of c D us) us l;
         wholes = λ j lt n. h.wholes j lt ∙ sym (off.wholes j lt n);
@@ -174,7 +185,7 @@ module _ (w : Scope) (D : ℕ) (small : Small w) (pos : 0 < D) where
           zeros = λ j lt n. let a = off.zeros j lt n in let b = h.ranks.zeros j lt in ((λ e. b.1 (a.0 e)), (λ e. a.1 (b.0 e)));
           orders = λ j k lj lk nj nk. let a = off.orders j k lj lk nj nk in let b = h.ranks.orders j k lj lk in ((λ e. b.1 (a.0 e)), (λ e. a.1 (b.0 e)));
         };
-        inside = lies_from w.top D (slice_index us p) (slice_index_or (front m (region_of c D us)) p none) pos (h.wholes p pm ∙ omega arith) (h.ranks.zeros p pm) i fit inside;
+        inside = lies_held w D pos (front m (region_of c D us)) us p i small.1 l.holds pm fit inside;
       }
 
   pub start_covers : (lawful w (start w) ≡ true) × covers w D (start w) (zeros w.clocks)
@@ -198,35 +209,25 @@ module _ (w : Scope) (D : ℕ) (small : Small w) (pos : 0 < D) where
 
   pub test_covers : (r : Region) (f : Frame) → lawful w r ≡ true → Framed w.clocks f → covers w D r f → (k : ℕ) (i : Interval) → k < w.clocks → Fits w.top i → Inside D i (slice_index f.clocks k) → (t : Region) × In (test w k i r) t × covers w D t f
   test_covers r f ok h l k i lt fit inside =
-      let s0 = small.0 in let s1 = small.1 in
+      let s0 = small.0 in
       let km : k < m = omega arith in
-      let e = l.holds.each in
       let v = values_clock w.clocks f k h lt in
-      let lies : lies_in i (slice_index_or (front m r) k none) ≡ true = lies_from w.top D (slice_index (values f) k) (slice_index_or (front m r) k none) pos (e.wholes k km ∙ omega arith) (e.ranks.zeros k km) i fit (subst (Inside D i) (sym v) inside) in
-      let asked : asks w k i r ≡ true = and_from (lawful w r) _ ok (and_from (nat_lt k w.clocks) _ (lt-ltb k w.clocks lt) (fits_from w.top i fit)) in
-      let all : (asks w k i r && lies_in i (slice_index_or r.items k none)) ≡ true = and_from (asks w k i r) _ asked (ap (lies_in i) (sym (get_or-take m r.items k none km)) ∙ lies) in
-      let is : test w k i r ≡ r ∷ [] = cond-true (asks w k i r && lies_in i (slice_index_or r.items k none)) (r ∷ []) [] all in
-      (r, subst (λ xs. In xs r) (sym is) (0, (omega arith, λ d. refl)), l)
+      let lies = lies_held w D pos (front m r) (values f) k i small.1 l.holds km fit (subst (Inside D i) (sym v) inside) in
+      (r, (test_exactly w k i r (asked w k i r ok lt fit)).each r (refl, ap (lies_in i) (sym (get_or-take m r.items k none km)) ∙ lies), l)
 
   pub assign_covers : (r : Region) (f : Frame) → lawful w r ≡ true → Framed w.clocks f → covers w D r f → (k : ℕ) (i : Interval) → k < w.clocks → Fits w.top i → (v : ℕ) → Inside D i v → (t : Region) × In (assign w k i r) t × covers w D t (assigned k v f)
   assign_covers r f ok h l k i lt fit v inside =
       let s0 = small.0 in
       let km : k < m = omega arith in
-      let e = l.holds.each in
       let vs = values f in
       let us = values (assigned k v f) in
       let set_is : us ≡ slice_set vs k v = values_assigned w.clocks k v f h lt in
       let long : length us ≡ m = ap length set_is ∙ length-set vs k v ∙ l.holds.values in
       let other : (j : ℕ) → (j ≢ k) → slice_index us j ≡ get_or vs j 0 = λ j n. ap (λ xs. slice_index xs j) set_is ∙ get_or-set_other vs k j v 0 n in
       let here : get_or us k 0 ≡ v = ap (λ xs. slice_index xs k) set_is ∙ get_or-set_same vs k v 0 (omega (arith, l.holds.values)) in
-      let off : Off m c D k (front m r) us = record {
-        wholes = λ j lj n. e.wholes j lj ∙ ap (λ x. min (x / D) (c j + 1)) (sym (other j n));
-        zeros = λ j lj n. let z = e.ranks.zeros j lj in let o = ap (λ x. x % D) (other j n) in ((λ y. o ∙ z.0 y), (λ y. z.1 (sym o ∙ y)));
-        orders = λ j q lj lq nj nq. let z = e.ranks.orders j q lj lq in let o = ap (λ x. x % D) (other j nj) in let o' = ap (λ x. x % D) (other q nq) in (grind arith, grind arith);
-      } in
-      let asked : asks w k i r ≡ true = and_from (lawful w r) _ ok (and_from (nat_lt k w.clocks) _ (lt-ltb k w.clocks lt) (fits_from w.top i fit)) in
+      let off : Off m c D k (front m r) us = off_along m c D k (front m r) r.items us vs (λ j. j) (λ j. refl) (wide m c D r vs le9 l) (λ j lj. get_or-take m r.items j none lj) other in
       let t = region_of c D us in
-      (t, (assign_exactly w k i r asked).each t (owed_values k r us i km long off fit (subst (Inside D i) (sym here) inside)), region_lies m c D le9 us long)
+      (t, (assign_exactly w k i r (asked w k i r ok lt fit)).each t (owed_values k r us i km long off fit (subst (Inside D i) (sym here) inside)), region_lies m c D le9 us long)
 
   pub push_covers : (r : Region) (f : Frame) → lawful w r ≡ true → Framed w.clocks f → covers w D r f → (i : Interval) → Fits w.top i → (v : ℕ) → Inside D i v → (t : Region) × In (push w i r) t × covers w D t (pushed v f)
   push_covers r f ok h l i fit v inside =
@@ -238,14 +239,9 @@ module _ (w : Scope) (D : ℕ) (small : Small w) (pos : 0 < D) where
       let vs = values f in
       let us = values (pushed v f) in
       let long : length us ≡ m = length_values n (pushed v f) (framed_pushed n v f hn) in
-      let wd = wide m c D r vs le9 l in
       let other : (j : ℕ) → (j ≢ n) → slice_index us j ≡ get_or vs (source n j) 0 = λ j ne. values_pushed n v f (omega arith) hn j ne in
       let at : (j : ℕ) → j < m → slice_index_or (front m (opened n r)) j none ≡ get_or r.items (source n j) none = λ j lj. opened_at n m r j le9 lj in
-      let off : Off m c D n (front m (opened n r)) us = record {
-        wholes = λ j lj ne. ap (λ x. x.whole) (at j lj) ∙ wd.wholes (source n j) ∙ ap (λ x. min (x / D) (c j + 1)) (sym (other j ne));
-        zeros = λ j lj ne. let z = wd.zeros (source n j) in let a = ap (λ x. x.rank) (at j lj) in let o = ap (λ x. x % D) (other j ne) in ((λ y. o ∙ z.0 (sym a ∙ y)), (λ y. a ∙ z.1 (sym o ∙ y)));
-        orders = λ j q lj lq nj nq. let z = wd.orders (source n j) (source n q) in let a = ap (λ x. x.rank) (at j lj) in let a' = ap (λ x. x.rank) (at q lq) in let o = ap (λ x. x % D) (other j nj) in let o' = ap (λ x. x % D) (other q nq) in (grind arith, grind arith);
-      } in
+      let off : Off m c D n (front m (opened n r)) us = off_along m c D n (front m (opened n r)) r.items us vs (source n) (λ j. refl) (wide m c D r vs le9 l) at other in
       let here : get_or us n 0 ≡ v = values_age n (pushed v f) (framed_pushed n v f hn) in
       let t = region_of c D us in
       (t, (push_exactly w i r ok (fits_from w.top i fit)).each t (owed_values n (opened n r) us i nm long off fit (subst (Inside D i) (sym here) inside)), region_lies m c D le9 us long)

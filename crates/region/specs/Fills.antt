@@ -13,21 +13,21 @@ use Rattle.abstraction.specs.declared.scope.Scope.{Scope}
 use Rattle.ranking.specs.declared.Item.{Item}
 use Rattle.ranking.specs.declared.Region.{Region}
 use Rattle.ranking.specs.Ranks.{Ranks}
-use Rattle.ranking.specs.Items.{none, whole_at, rank_at, places, ceiling, with_items}
+use Rattle.ranking.specs.Items.{clocks_of, none, whole_at, rank_at, places, ceiling, with_items}
 use Rattle.ranking.specs.Lawful.{front, Shaped, Lawful}
 use Rattle.ranking.specs.Insert.{between}
 use Rattle.ranking.specs.Close.{shut}
 use Rattle.ranking.specs.Rotation.{greatest}
 use Rattle.ranking.specs.Joined.{join, Adds, Below}
-use Rattle.ranking.proofs.Steps.{unique, ranks_same}
+use Rattle.ranking.proofs.Steps.{ranks_same}
 use Rattle.ranking.proofs.Close.{shut_ranks, shut_whole, rank_few}
 use Rattle.ranking.proofs.Insert.{at_p, at_other, inserted, every_key}
 use Rattle.ranking.proofs.Lists.{rank_le, greatest_le}
-use Rattle.ranking.proofs.Joined.{same_item, join_adds, repeat_adds, adds_none, adds_like}
-use Rattle.region.specs.Asked.{lawful, above, below, lies_in, asks, clocks_of}
+use Rattle.ranking.proofs.Joined.{join_adds, repeat_adds, adds_none, adds_like}
+use Rattle.region.specs.Asked.{lawful, above, below, lies_in, asks}
 use Rattle.region.specs.Listed.{doubled, spread, placed, placing, keys, fill_keys, fill, assign, source, opened, push}
 use Rattle.region.specs.Laws.{Exactly, Owed}
-use Rattle.region.specs.Shapes.{few_places, front_long, closed_front, closed_rest, closed_full, same_front, lawful_holds}
+use Rattle.region.specs.Shapes.{few_places, front_long, closed_front, closed_rest, closed_full, same_front, same_ranked, lawful_holds}
 use Rattle.region.specs.Times.{exactly_adds}
 
 -- whether an item lies in an interval depends on its whole part and on whether it has a fraction
@@ -153,11 +153,9 @@ module _ (w : Scope) (p : ℕ) (pm : p < places w) (r : Region) (b : Base (place
       let x : Item = record { whole = whole_at (front m t) p; rank = k.0 } in
       let here = at_p p k.0 ρ in
       let z = k.2.zeros p pm in
-      let same : front m t ≡ front m (put x) = ext_get_or none (front m t) (front m (put x)) (tlong ∙ sym (front_long m (put x) le9 (put_shaped x).full))
-      (λ j lt. let l : j < m = omega (arith, tlong) in
-      same_item (slice_index_or (front m t) j none) (slice_index_or (front m (put x)) j none)
-      (⊎_elim (λ e. ap (whole_at (front m t)) e.0 ∙ sym (put_whole x j l ∙ e.1)) (λ e. o.wholes j l e.0 ∙ sym (put_whole x j l ∙ e.1)) (new_whole x j l))
-      (unique m (rank_at (front m t)) (rank_at (front m (put x))) (between p k.0 ρ) k.2 (put_ranks x) j l)) in (
+      let same : front m t ≡ front m (put x) = same_ranked m (between p k.0 ρ) (front m t) (front m (put x)) tlong (front_long m (put x) le9 (put_shaped x).full)
+      (λ j l. ⊎_elim (λ e. ap (whole_at (front m t)) e.0 ∙ sym (put_whole x j l ∙ e.1)) (λ e. o.wholes j l e.0 ∙ sym (put_whole x j l ∙ e.1)) (new_whole x j l))
+      k.2 (put_ranks x) in (
         x,
         tl.wholes p pm,
         k.1,
@@ -227,9 +225,6 @@ source_cases n j = ⊎_elim
     (cases_lt j (2 * n + 2)))
     (cases_eq j n))
     (cases_lt j n)
-
-source_low : (n j : ℕ) → n ≤ 3 → (source n j ≤ n) ⊎ (source n j ≡ 9)
-source_low n j le = ⊎_elim (λ a. inl (omega (arith, a.0, a.1))) (λ a. ⊎_elim (λ b. inl b.3) (λ b. inr b.1) a) (source_cases n j)
 
 opened_rest : (n m : ℕ) (r : Region) → m ≡ 2 * n + 3 → m ≤ 9 → length r.items ≡ 9 → drop m (opened n r).items ≡ replicate (9 - m) none
 opened_rest n m r e le full =

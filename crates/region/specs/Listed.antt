@@ -5,13 +5,13 @@ use Rattle.abstraction.specs.declared.interval.Interval.{Interval}
 use Rattle.abstraction.specs.declared.scope.Scope.{Scope}
 use Rattle.ranking.specs.declared.Item.{Item}
 use Rattle.ranking.specs.declared.Region.{Region}
-use Rattle.ranking.specs.Items.{none, places, ceiling, with_items}
+use Rattle.ranking.specs.Items.{clocks_of, none, places, ceiling, with_items}
 use Rattle.ranking.specs.Lawful.{front}
 use Rattle.ranking.specs.Close.{closed}
 use Rattle.ranking.specs.Rotation.{greatest, turned_by}
 use Rattle.ranking.specs.Joined.{join, repeat}
 use Rattle.merging.specs.Pop.{pops}
-use Rattle.region.specs.Asked.{lawful, lies_in, asks, clocks_of, pop_asks}
+use Rattle.region.specs.Asked.{lawful, lies_in, asks, pop_asks}
 
 -- all values 0
 abbrev pub start : Scope → Region

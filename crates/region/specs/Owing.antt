@@ -1,7 +1,7 @@
-use Rattle.std.specs.Prelude.{◌≡◌, ℕ, ◌+◌, ◌<◌, ◌≤◌, Bool, true, false, cond, ◌&&◌, List, [], ◌∷◌, get_or, nat_lt, slice_index, slice_index_or, refl}
+use Rattle.std.specs.Prelude.{◌≡◌, ℕ, ◌+◌, ◌<◌, ◌≤◌, Bool, true, false, cond, ◌&&◌, List, [], slice_index_or, refl}
 use Rattle.std.proofs.Common.{sym, ap, ◌∙◌, subst, arith}
 use Rattle.std.proofs.lemmas.List.{get_or-take}
-use Rattle.std.proofs.lemmas.Bool.{and_from, lt-ltb, both_ways}
+use Rattle.std.proofs.lemmas.Bool.{both_ways}
 use Rattle.abstraction.specs.Owes.{Small, Lawfully, ListsLawfully, Covers}
 use Rattle.abstraction.specs.Bounds.{Inside, Fits, fits}
 use Rattle.abstraction.specs.Frames.{Frame, Framed, plus, popped}
@@ -10,48 +10,24 @@ use Rattle.abstraction.proofs.Tests.{fits_from}
 use Rattle.abstraction.specs.declared.interval.Interval.{Interval}
 use Rattle.abstraction.specs.declared.scope.Scope.{Scope}
 use Rattle.ranking.specs.declared.Region.{Region}
-use Rattle.ranking.specs.Items.{none, places, ceiling}
+use Rattle.ranking.specs.Items.{clocks_of, none, places, ceiling}
 use Rattle.ranking.specs.Lawful.{front, Lawful}
 use Rattle.ranking.proofs.Joined.{same_decides}
 use Rattle.merging.specs.Pop.{pops}
 use Rattle.merging.specs.Law.{Pops, Popped}
 use Rattle.merging.proofs.Law.{pop_law}
 use Rattle.region.specs.declared.Regions.{Regions}
-use Rattle.region.specs.Asked.{lawful, lies_in, asks, clocks_of, pop_asks}
+use Rattle.region.specs.Asked.{lawful, lies_in, pop_asks}
 use Rattle.region.specs.Listed.{time, test, assign, opened, push, pop}
 use Rattle.region.specs.Laws.{Exactly, Rotates, Owed, covers, values, ListsExactly, FramesOnce}
 use Rattle.region.specs.Regions.{regions, covering}
-use Rattle.region.specs.Shapes.{few_places, lawful_holds, lawful_only}
-use Rattle.region.specs.Times.{turns_lawful, time_exactly}
+use Rattle.region.specs.Shapes.{few_places, lawful_holds, lawful_only, asked}
+use Rattle.region.specs.Times.{turns_lawful, time_exactly, test_exactly}
 use Rattle.region.specs.Fills.{assign_exactly, push_exactly}
 use Rattle.region.specs.Span.{lies_from, lies_to}
-use Rattle.region.specs.Cover.{covered_once, start_covers, time_covers_frames, test_covers, assign_covers, push_covers}
+use Rattle.region.specs.Cover.{lies_held, covered_once, start_covers, time_covers_frames, test_covers, assign_covers, push_covers}
 use Rattle.region.specs.ValuesLemmas.{values_age}
 use Rattle.region.specs.Pops.{pop_joined}
-
-asked : (w : Scope) (k : ℕ) (i : Interval) (r : Region) → lawful w r ≡ true → k < w.clocks → Fits w.top i → asks w k i r ≡ true
-asked w k i r ok lt f = and_from (lawful w r) _ ok (and_from (nat_lt k w.clocks) _ (lt-ltb k w.clocks lt) (fits_from w.top i f))
-
--- one region or none
-one_or_none : (b : Bool) (r : Region) → Exactly (λ t. (t ≡ r) × (b ≡ true)) (cond b (r ∷ []) [])
-one_or_none true r = record {
-  few = omega arith;
-  each = λ t q. (0, (omega arith, λ d. sym q.0));
-  only = λ t h. let e : h.0 ≡ 0 = omega (arith, h.1.0) in (sym (h.1.1 r) ∙ ap (λ k. get_or (r ∷ []) k r) e, refl);
-  once = λ i j d li lj e. omega arith;
-}
-one_or_none false r = record {
-  few = omega arith;
-  each = λ t q. absurd (both_ways false refl q.1);
-  only = λ t h. absurd (omega (arith, h.1.0));
-  once = λ i j d li lj e. omega arith;
-}
-
-test_exactly : (w : Scope) (k : ℕ) (i : Interval) (r : Region) → asks w k i r ≡ true → Exactly (λ t. (t ≡ r) × (lies_in i (slice_index_or r.items k none) ≡ true)) (test w k i r)
-test_exactly w k i r a =
-    let b = lies_in i (slice_index_or r.items k none) in
-    let e : (asks w k i r && b) ≡ b = ap (λ x. x && b) a in
-    rw e (one_or_none b r)
 
 -- the mergings, where the age above lies in the interval
 pop_when : (w : Scope) (i : Interval) (s u : Region) (b : Bool) → pop_asks w i s u ≡ b → Popped w s u (pops w s u) → Exactly (λ t. Pops w s u t × (b ≡ true)) (cond b (pops w s u) [])
@@ -107,9 +83,8 @@ pop_covers w D small pos s u f g hs hu ff fg ls lu i fit inside kept kept_age =
     let nm : n < m = omega arith in
     let fg' = subst (λ k. Framed k g) nc fg in
     let j = pop_joined n f g (subst (λ k. Framed k f) nc ff) fg' kept kept_age m (ceiling w) D s u (omega arith) (omega arith) pos (λ x y. refl) ls lu in
-    let e = lu.holds.each in
     let v = values_age n g fg' in
-    let lies : lies_in i (slice_index_or u.items n none) ≡ true = ap (lies_in i) (sym (get_or-take m u.items n none nm)) ∙ lies_from w.top D (slice_index (values g) n) (slice_index_or (front m u) n none) pos (e.wholes n nm ∙ omega arith) (e.ranks.zeros n nm) i fit (subst (Inside D i) (sym v) inside) in
+    let lies : lies_in i (slice_index_or u.items n none) ≡ true = ap (lies_in i) (sym (get_or-take m u.items n none nm)) ∙ lies_held w D pos (front m u) (values g) n i s1 lu.holds nm fit (subst (Inside D i) (sym v) inside) in
     (j.0, (pop_exactly w i s u hs hu fit).each j.0 ((j.1, j.2), lies), j.3)
 
 -- no run escapes the lists

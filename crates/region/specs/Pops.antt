@@ -1,6 +1,6 @@
 use Rattle.std.specs.Prelude.{◌≡◌, ℕ, suc, ◌+◌, ◌-◌, ◌*◌, ◌/◌, ◌%◌, ◌<◌, ◌≤◌, min, List, [], ◌∷◌, ◌++◌, length, get_or, take, drop, replicate, slice_index, slice_index_or, refl}
 use Rattle.std.proofs.Common.{sym, ap, ◌∙◌, subst, ⊎_elim, arith, zero-add, length-append, length-drop}
-use Rattle.std.proofs.lemmas.List.{take_at, drop_at, append_assoc, map-append, ext_get_or, length-take-le, length-replicate, get_or-take, get_or-drop, get_or_append_left, get_or-append_right, get_or_at, get_or_past, drop-append-le, length-map}
+use Rattle.std.proofs.lemmas.List.{take_at, drop_at, append_assoc, map-append, length-take-le, length-replicate, get_or-take, get_or-drop, get_or_append_left, get_or-append_right, get_or_at, get_or_past, drop-append-le, length-map}
 use Rattle.std.specs.List.{insert}
 use Rattle.std.proofs.lemmas.List.Edits.{length-insert, get_or-insert_below, get_or-insert_at, get_or-insert_above}
 use Rattle.std.proofs.lemmas.Bool.{cases_lt, cases_eq}
@@ -14,21 +14,14 @@ use Rattle.ranking.specs.Lawful.{front, Lies}
 use Rattle.ranking.specs.Close.{shut}
 use Rattle.ranking.specs.Rotation.{turns}
 use Rattle.ranking.proofs.Each.{length_each, getD_each}
-use Rattle.ranking.proofs.Steps.{unique, rekeyed}
+use Rattle.ranking.proofs.Steps.{rekeyed}
 use Rattle.ranking.proofs.Close.{shut_ranks, shut_whole, length_shut}
 use Rattle.ranking.proofs.Lists.{time_covers}
-use Rattle.ranking.proofs.Joined.{same_item}
 use Rattle.merging.specs.Law.{Joint, place_of, projected, Joins, with_mark, region_of as join_region}
 use Rattle.region.specs.Laws.{values, items_of}
 use Rattle.region.specs.ValuesLemmas.{length_values}
-use Rattle.region.specs.Cover.{made_holds, wide}
+use Rattle.region.specs.Cover.{made_holds, holds_alone, wide}
 use Rattle.region.specs.Fills.{past_front}
-
--- the items that hold given values are those of no other list
-holds_alone : (m : ℕ) (c : ℕ → ℕ) (D : ℕ) (xs ys : List Item) (vs : List ℕ) → Holds m c D xs vs → Holds m c D ys vs → xs ≡ ys
-holds_alone m c D xs ys vs a b = ext_get_or none xs ys (a.items ∙ sym b.items)
-    (λ i lt. let l : i < m = omega (arith, a.items) in
-    same_item (slice_index_or xs i none) (slice_index_or ys i none) (a.each.wholes i l ∙ sym (b.each.wholes i l)) (unique m _ _ _ a.each.ranks b.each.ranks i l))
 
 -- items chosen from a list that holds values, closed up, hold the values that are chosen likewise
 chosen : (M k : ℕ) (c : ℕ → ℕ) (D : ℕ) (xs ys : List Item) (vs us : List ℕ) (σ : ℕ → ℕ) → ((i j : ℕ) → c i ≡ c j) → Holds M c D xs vs → length ys ≡ k → length us ≡ k

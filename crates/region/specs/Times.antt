@@ -1,14 +1,15 @@
-use Rattle.std.specs.Prelude.{◌≡◌, ℕ, zero, suc, ◌+◌, ◌*◌, ◌<◌, ◌≤◌, min, true, false, cond, List, [], length, drop, ◌==◌, refl}
+use Rattle.std.specs.Prelude.{◌≡◌, ℕ, zero, suc, ◌+◌, ◌*◌, ◌<◌, ◌≤◌, min, true, false, cond, List, [], length, drop, ◌==◌, Bool, ◌&&◌, ◌∷◌, get_or, slice_index_or, refl}
 use Rattle.std.proofs.Common.{sym, ap, ◌∙◌, subst, ⊎_elim, arith, mul-one, length-drop, length-append}
 use Rattle.std.proofs.lemmas.List.{take_at, drop_at}
-use Rattle.std.proofs.lemmas.Bool.{cases_Bool, cond-true}
+use Rattle.std.proofs.lemmas.Bool.{cases_Bool, cond-true, both_ways}
 use Rattle.std.proofs.lemmas.Bool.Decides.{nat_tests}
 use Rattle.std.proofs.lemmas.Nat.{mul-le}
+use Rattle.abstraction.specs.declared.interval.Interval.{Interval}
 use Rattle.abstraction.specs.declared.scope.Scope.{Scope}
 use Rattle.ranking.specs.declared.Item.{Item}
 use Rattle.ranking.specs.declared.Region.{Region}
 use Rattle.ranking.specs.Ranks.{Gapless}
-use Rattle.ranking.specs.Items.{whole_at, rank_at, places, ceiling}
+use Rattle.ranking.specs.Items.{none, whole_at, rank_at, places, ceiling}
 use Rattle.ranking.specs.Lawful.{front, Shaped, Lawful}
 use Rattle.ranking.specs.Rotation.{has_zero, greatest, rotated, turns, turned, turned_by}
 use Rattle.ranking.specs.Joined.{join, Adds, Below}
@@ -17,8 +18,8 @@ use Rattle.ranking.proofs.Close.{own_ranks, rank_few}
 use Rattle.ranking.proofs.Lists.{zero_at, no_zero, rank_le, greatest_le, length_rotated, at_up, at_over}
 use Rattle.ranking.proofs.Turns.{every_turn, greatest_at}
 use Rattle.ranking.proofs.Joined.{join_adds, repeat_adds}
-use Rattle.region.specs.Asked.{lawful}
-use Rattle.region.specs.Listed.{highest, rounds, rotations, time}
+use Rattle.region.specs.Asked.{lawful, lies_in, asks}
+use Rattle.region.specs.Listed.{highest, rounds, rotations, time, test}
 use Rattle.region.specs.Laws.{Exactly, Rotates}
 use Rattle.region.specs.Shapes.{few_places, front_long, lawful_holds, same_front}
 
@@ -117,3 +118,24 @@ time_exactly w r h =
     let j = every_turned m (ceiling w) le (highest w) (λ i. omega arith) r l q.0 in
     (j.0, rw most j.1, q.1 ∙ j.2))
     a)
+
+-- one region or none
+one_or_none : (b : Bool) (r : Region) → Exactly (λ t. (t ≡ r) × (b ≡ true)) (cond b (r ∷ []) [])
+one_or_none true r = record {
+  few = omega arith;
+  each = λ t q. (0, (omega arith, λ d. sym q.0));
+  only = λ t h. let e : h.0 ≡ 0 = omega (arith, h.1.0) in (sym (h.1.1 r) ∙ ap (λ k. get_or (r ∷ []) k r) e, refl);
+  once = λ i j d li lj e. omega arith;
+}
+one_or_none false r = record {
+  few = omega arith;
+  each = λ t q. absurd (both_ways false refl q.1);
+  only = λ t h. absurd (omega (arith, h.1.0));
+  once = λ i j d li lj e. omega arith;
+}
+
+pub test_exactly : (w : Scope) (k : ℕ) (i : Interval) (r : Region) → asks w k i r ≡ true → Exactly (λ t. (t ≡ r) × (lies_in i (slice_index_or r.items k none) ≡ true)) (test w k i r)
+test_exactly w k i r a =
+    let b = lies_in i (slice_index_or r.items k none) in
+    let e : (asks w k i r && b) ≡ b = ap (λ x. x && b) a in
+    rw e (one_or_none b r)

@@ -3,8 +3,7 @@
 
 use abstraction::{Interval, Scope, Upper};
 use ranking::{Item, Region};
-
-const EMPTY: Item = Item { whole: 0, rank: 0 };
+use std::array::from_fn;
 
 // The values of a frame, in parts of 1 / scale: the clocks, the age, the kept clocks, the kept age and
 // the time elapsed. Places past those are not in use.
@@ -18,7 +17,7 @@ pub(crate) struct World {
 }
 
 pub(crate) fn at(frame: &Frame, place: usize) -> u16 {
-    if place < 9 { frame[place] } else { 0 }
+    frame.get(place).copied().unwrap_or(0)
 }
 
 impl World {
@@ -40,62 +39,47 @@ impl World {
 
     pub(crate) fn finer(self, times: u16) -> World {
         World {
-            clocks: self.clocks,
-            top: self.top,
             scale: self.scale.wrapping_mul(times),
+            ..self
         }
     }
 
     fn fraction(self, value: u16) -> u16 {
-        if self.scale == 0 {
-            0
-        } else {
-            value % self.scale
-        }
+        value.checked_rem(self.scale).unwrap_or(0)
     }
 
     // The greatest bound of 1 to top + 1 that is reached.
     fn whole(self, value: u16) -> u8 {
-        let mut reached = 0;
-        for bound in 1..=16u8 {
-            if bound as u16 <= self.top as u16 + 1
-                && (bound as u16).wrapping_mul(self.scale) <= value
-            {
-                reached = bound;
-            }
-        }
-        reached
+        (1..=16u8)
+            .rev()
+            .find(|bound| {
+                *bound as u16 <= self.top as u16 + 1
+                    && (*bound as u16).wrapping_mul(self.scale) <= value
+            })
+            .unwrap_or(0)
     }
 
     fn has(self, frame: &Frame, fraction: u16) -> bool {
-        for i in 0..9usize {
-            if i < self.used() && self.fraction(frame[i]) == fraction {
-                return true;
-            }
-        }
-        false
+        frame
+            .iter()
+            .take(self.used())
+            .any(|value| self.fraction(*value) == fraction)
     }
 
     // How many fractions the frame has above 0 and up to that of the value.
     fn rank(self, frame: &Frame, value: u16) -> u8 {
-        let mut count = 0u8;
-        for fraction in 1..=self.fraction(value) {
-            if self.has(frame, fraction) {
-                count = count.wrapping_add(1);
-            }
-        }
-        count
+        (1..=self.fraction(value))
+            .filter(|fraction| self.has(frame, *fraction))
+            .fold(0u8, |count, _| count.wrapping_add(1))
     }
 
     pub(crate) fn region(self, frame: &Frame) -> Region {
-        let mut items = [EMPTY; 9];
-        for i in 0..9usize {
-            if i < self.used() {
-                items[i] = Item {
-                    whole: self.whole(frame[i]),
-                    rank: self.rank(frame, frame[i]),
-                };
-            }
+        let mut items = [Item::NONE; 9];
+        for (item, value) in items.iter_mut().zip(frame).take(self.used()) {
+            *item = Item {
+                whole: self.whole(*value),
+                rank: self.rank(frame, *value),
+            };
         }
         Region { items }
     }
@@ -116,73 +100,64 @@ impl World {
     }
 
     // The next frame of values below the limit, if there is one.
-    pub(crate) fn next(self, frame: &mut Frame) -> bool {
-        for i in 0..9usize {
-            if i < self.used() {
-                frame[i] = frame[i].wrapping_add(1);
-                if frame[i] < self.limit() {
-                    return true;
-                }
-                frame[i] = 0;
+    pub(crate) fn next(self, frame: &Frame) -> Option<Frame> {
+        let mut next = *frame;
+        for value in next.iter_mut().take(self.used()) {
+            *value = value.wrapping_add(1);
+            if *value < self.limit() {
+                return Some(next);
             }
+            *value = 0;
         }
-        false
+        None
     }
 
     // The frame above at a push.
     pub(crate) fn pushed(self, frame: &Frame, age: u16) -> Frame {
         let n = self.clocks as usize;
-        let mut above = [0u16; 9];
-        for i in 0..9usize {
+        from_fn(|i| {
             if i < n {
-                above[i] = frame[i];
+                at(frame, i)
             } else if i == n {
-                above[i] = age;
+                age
             } else if i <= 2 * n + 1 {
-                above[i] = at(frame, i - n - 1);
+                at(frame, i - n - 1)
+            } else {
+                0
             }
-        }
-        above
+        })
     }
 
     // The frame below when the one above is popped.
     pub(crate) fn popped(self, below: &Frame, above: &Frame) -> Frame {
         let n = self.clocks as usize;
         let elapsed = at(above, 2 * n + 2);
-        let mut next = [0u16; 9];
-        for i in 0..9usize {
+        from_fn(|i| {
             if i < n {
-                next[i] = above[i];
+                at(above, i)
             } else if i < self.used() {
-                next[i] = below[i].wrapping_add(elapsed);
+                at(below, i).wrapping_add(elapsed)
+            } else {
+                0
             }
-        }
-        next
+        })
     }
 }
 
 // Every value so many times as large.
 pub(crate) fn scaled(frame: &Frame, times: u16) -> Frame {
-    let mut next = [0u16; 9];
-    for i in 0..9usize {
-        next[i] = frame[i].wrapping_mul(times);
-    }
-    next
+    frame.map(|value| value.wrapping_mul(times))
 }
 
 // Every value later.
 pub(crate) fn later(frame: &Frame, units: u16) -> Frame {
-    let mut next = [0u16; 9];
-    for i in 0..9usize {
-        next[i] = frame[i].wrapping_add(units);
-    }
-    next
+    frame.map(|value| value.wrapping_add(units))
 }
 
 pub(crate) fn assigned(frame: &Frame, place: usize, value: u16) -> Frame {
     let mut next = *frame;
-    if place < 9 {
-        next[place] = value;
+    if let Some(slot) = next.get_mut(place) {
+        *slot = value;
     }
     next
 }

@@ -29,82 +29,98 @@ fn world(clocks: u8, top: u8, scale: u16) -> World {
 
 // Whether the list holds what was found, which has each region once, and nothing else.
 fn same(found: &[Region], listed: &[Region]) -> bool {
-    for region in found {
-        if !listed.contains(region) {
-            return false;
-        }
-    }
-    found.len() == listed.len()
+    found.iter().all(|region| listed.contains(region)) && found.len() == listed.len()
 }
 
-fn note_one(found: &mut Vec<Region>, region: Region) -> Result<(), AllocError> {
-    if !found.as_slice().contains(&region) {
-        found.push(region)?;
+// Notes it once.
+fn note<T: PartialEq + Copy>(found: &mut Vec<T>, item: T) -> Result<(), AllocError> {
+    if !found.as_slice().contains(&item) {
+        found.push(item)?;
     }
     Ok(())
 }
 
-// The frame that a change with this value leads to, if there is one.
-fn changed(w: World, change: Change, i: Interval, frame: &Frame, value: u16) -> Option<Frame> {
-    match change {
-        Change::Time => Some(later(frame, value)),
-        Change::Test(clock) if w.lies(i, at(frame, clock as usize)) => Some(*frame),
-        Change::Assign(clock) if w.lies(i, value) => Some(assigned(frame, clock as usize, value)),
-        Change::Push if w.lies(i, value) => Some(w.pushed(frame, value)),
-        _ => None,
-    }
-}
-
-fn list(w: World, change: Change, i: Interval, frame: &Frame, out: &mut Listing<Region>) {
-    let regions = Regions::new();
-    let region = w.region(frame);
-    match change {
-        Change::Time => regions.time(w.scope(), region, out),
-        Change::Test(clock) => regions.test(w.scope(), clock as u64, i, region, out),
-        Change::Assign(clock) => regions.assign(w.scope(), clock as u64, i, region, out),
-        Change::Push => regions.push(w.scope(), i, region, out),
-    }
-}
-
-// Whether the list for a frame holds the regions that its changes lead to.
-fn agrees(
+// Whether a check passes on each frame of the world; it is told how many came before.
+fn on_each_frame<F: FnMut(u32, &Frame) -> Result<bool, AllocError>>(
     w: World,
-    change: Change,
-    i: Interval,
-    frame: &Frame,
-    out: &mut Listing<Region>,
-    found: &mut Vec<Region>,
-) -> Result<bool, AllocError> {
-    let fine = w.finer(2);
-    let start = scaled(frame, 2);
-    found.truncate(0);
-    for value in 0..fine.limit() {
-        if let Some(next) = changed(fine, change, i, &start, value) {
-            note_one(found, fine.region(&next))?;
-        }
-    }
-    list(w, change, i, frame, out);
-    Ok(same(found.as_slice(), out.shapes()))
-}
-
-// The same for each frame of the world.
-fn all_agree(
-    w: World,
-    change: Change,
-    i: Interval,
-    out: &mut Listing<Region>,
-    found: &mut Vec<Region>,
-) -> Result<bool, AllocError> {
+    mut check: F,
+) -> Result<bool, AllocError>
+    requires { F.IsAlwaysCallable check }
+{
     let mut frame = [0u16; 9];
-    for _ in 0..100_000u32 {
-        if !agrees(w, change, i, &frame, out, found)? {
+    for k in 0..100_000u32 {
+        if !check(k, &frame)? {
             return Ok(false);
         }
-        if !w.next(&mut frame) {
+        let Some(next) = w.next(&frame) else {
             return Ok(true);
-        }
+        };
+        frame = next;
     }
     Ok(false)
+}
+
+// What a list is asked for.
+#[derive(Clone, Copy)]
+struct Question {
+    world: World,
+    change: Change,
+    interval: Interval,
+}
+
+impl Question {
+    // The frame that the change with this value leads to, at a finer scale, if there is one.
+    fn changed(self, fine: World, frame: &Frame, value: u16) -> Option<Frame> {
+        let lies = |value| fine.lies(self.interval, value);
+        match self.change {
+            Change::Time => Some(later(frame, value)),
+            Change::Test(clock) if lies(at(frame, clock as usize)) => Some(*frame),
+            Change::Assign(clock) if lies(value) => Some(assigned(frame, clock as usize, value)),
+            Change::Push if lies(value) => Some(fine.pushed(frame, value)),
+            _ => None,
+        }
+    }
+
+    fn list(self, frame: &Frame, out: &mut Listing<Region>) {
+        let regions = Regions::new();
+        let scope = self.world.scope();
+        let region = self.world.region(frame);
+        let i = self.interval;
+        match self.change {
+            Change::Time => regions.time(scope, region, out),
+            Change::Test(clock) => regions.test(scope, clock as u64, i, region, out),
+            Change::Assign(clock) => regions.assign(scope, clock as u64, i, region, out),
+            Change::Push => regions.push(scope, i, region, out),
+        }
+    }
+
+    // Whether the list for a frame holds the regions that its changes lead to.
+    fn agrees(
+        self,
+        frame: &Frame,
+        out: &mut Listing<Region>,
+        found: &mut Vec<Region>,
+    ) -> Result<bool, AllocError> {
+        let fine = self.world.finer(2);
+        let start = scaled(frame, 2);
+        found.truncate(0);
+        for value in 0..fine.limit() {
+            if let Some(next) = self.changed(fine, &start, value) {
+                note(found, fine.region(&next))?;
+            }
+        }
+        self.list(frame, out);
+        Ok(same(found.as_slice(), out.shapes()))
+    }
+
+    // The same for each frame of the world.
+    fn all_agree(
+        self,
+        out: &mut Listing<Region>,
+        found: &mut Vec<Region>,
+    ) -> Result<bool, AllocError> {
+        on_each_frame(self.world, |_, frame| self.agrees(frame, out, found))
+    }
 }
 
 fn between(lower: u8, strict: bool, upper: Upper) -> Interval {
@@ -128,164 +144,164 @@ fn intervals(top: u8) -> [Interval; 6] {
 }
 
 // The same for each of the intervals.
-fn agree_on_intervals(heap: Global, w: World, change: Change) -> Result<bool, AllocError> {
+fn agree_on(
+    heap: Global,
+    world: World,
+    change: Change,
+    intervals: &[Interval],
+) -> Result<bool, AllocError> {
     let mut out = Listing::new(heap)?;
     let mut found = Vec::new(heap);
-    for i in intervals(w.top) {
-        if !all_agree(w, change, i, &mut out, &mut found)? {
+    for interval in intervals {
+        let question = Question {
+            world,
+            change,
+            interval: *interval,
+        };
+        if !question.all_agree(&mut out, &mut found)? {
             return Ok(false);
         }
     }
     Ok(true)
 }
 
+fn agree_on_intervals(heap: Global, w: World, change: Change) -> Result<bool, AllocError> {
+    agree_on(heap, w, change, &intervals(w.top))
+}
+
 fn agree_on_time(heap: Global, w: World) -> Result<bool, AllocError> {
-    let mut out = Listing::new(heap)?;
-    let mut found = Vec::new(heap);
-    all_agree(w, Change::Time, ANY, &mut out, &mut found)
+    agree_on(heap, w, Change::Time, &[ANY])
 }
 
 // A region above, and one that comes of its pop.
-#[derive(Clone, Copy)]
+#[derive(Clone, Copy, PartialEq)]
 struct Pair {
     above: Region,
     popped: Region,
 }
 
-fn note_pair(pairs: &mut Vec<Pair>, pair: Pair) -> Result<(), AllocError> {
-    for p in pairs.as_slice() {
-        if p.above == pair.above && p.popped == pair.popped {
-            return Ok(());
-        }
-    }
-    pairs.push(pair)?;
-    Ok(())
-}
-
 fn count(pairs: &[Pair], above: Region) -> usize {
-    let mut n = 0usize;
-    for p in pairs {
-        if p.above == above {
-            n = n.wrapping_add(1);
-        }
-    }
-    n
+    pairs.iter().filter(|pair| pair.above == above).count()
 }
 
-// Pops each frame above that has this age and any clock.
-fn gather_clocks(
-    w: World,
-    below: &Frame,
-    risen: &Frame,
-    pairs: &mut Vec<Pair>,
-) -> Result<(), AllocError> {
-    for clock in 0..w.limit() {
-        let above = if w.clocks == 0 {
-            *risen
-        } else {
-            assigned(risen, 0, clock)
-        };
-        let pair = Pair {
-            above: w.region(&above),
-            popped: w.region(&w.popped(below, &above)),
-        };
-        note_pair(pairs, pair)?;
-        if w.clocks == 0 {
-            return Ok(());
-        }
-    }
-    Ok(())
+// Pops of the frames above that can stand on the frame below.
+#[derive(Clone, Copy)]
+struct Pops {
+    world: World,
+    below: Frame,
+    interval: Interval,
 }
 
-// Pops each frame that stands on the one below, at any time, age and clock.
-fn gather(w: World, below: &Frame, i: Interval, pairs: &mut Vec<Pair>) -> Result<(), AllocError> {
-    for elapsed in 0..w.limit() {
-        let kept = later(&w.pushed(below, 0), elapsed);
-        for age in 0..w.limit() {
-            if w.lies(i, age) {
-                let risen = assigned(&kept, w.clocks as usize, age);
-                gather_clocks(w, below, &risen, pairs)?;
+impl Pops {
+    fn finer(self, times: u16) -> Pops {
+        Pops {
+            world: self.world.finer(times),
+            below: scaled(&self.below, times),
+            ..self
+        }
+    }
+
+    // Pops each frame above that has this age and any clock.
+    fn gather_clocks(self, risen: &Frame, pairs: &mut Vec<Pair>) -> Result<(), AllocError> {
+        let w = self.world;
+        for clock in 0..w.limit() {
+            let above = if w.clocks == 0 {
+                *risen
+            } else {
+                assigned(risen, 0, clock)
+            };
+            let pair = Pair {
+                above: w.region(&above),
+                popped: w.region(&w.popped(&self.below, &above)),
+            };
+            note(pairs, pair)?;
+            if w.clocks == 0 {
+                return Ok(());
             }
         }
+        Ok(())
     }
-    Ok(())
-}
 
-// Whether each list for the frame below and one above holds what was gathered, and nothing else.
-fn lists_gathered(
-    w: World,
-    below: &Frame,
-    i: Interval,
-    out: &mut Listing<Region>,
-    pairs: &[Pair],
-) -> bool {
-    let regions = Regions::new();
-    let s = w.region(below);
-    for p in pairs {
-        regions.pop(w.scope(), i, s, p.above, out);
-        if !out.shapes().contains(&p.popped) || out.shapes().len() != count(pairs, p.above) {
-            return false;
+    // Pops each frame that stands on the one below, at any time, age and clock.
+    fn gather(self, pairs: &mut Vec<Pair>) -> Result<(), AllocError> {
+        let w = self.world;
+        for elapsed in 0..w.limit() {
+            let kept = later(&w.pushed(&self.below, 0), elapsed);
+            for age in 0..w.limit() {
+                if w.lies(self.interval, age) {
+                    let risen = assigned(&kept, w.clocks as usize, age);
+                    self.gather_clocks(&risen, pairs)?;
+                }
+            }
         }
+        Ok(())
     }
-    true
-}
 
-// Whether nothing is listed for regions above that do not stand on the frame below.
-fn lists_no_others(
-    w: World,
-    below: &Frame,
-    i: Interval,
-    out: &mut Listing<Region>,
-    pairs: &[Pair],
-) -> bool {
-    let regions = Regions::new();
-    let s = w.region(below);
-    let mut frame = [0u16; 9];
-    for _ in 0..100_000u32 {
-        let u = w.region(&frame);
-        if count(pairs, u) == 0 {
-            regions.pop(w.scope(), i, s, u, out);
-            if out.shapes().len() != 0 {
+    fn list(self, above: Region, out: &mut Listing<Region>) {
+        let below = self.world.region(&self.below);
+        Regions::new().pop(self.world.scope(), self.interval, below, above, out);
+    }
+
+    // Whether each list for the frame below and one above holds what was gathered, and nothing else.
+    fn lists_gathered(self, out: &mut Listing<Region>, pairs: &[Pair]) -> bool {
+        for pair in pairs {
+            self.list(pair.above, out);
+            if !out.shapes().contains(&pair.popped)
+                || out.shapes().len() != count(pairs, pair.above)
+            {
                 return false;
             }
         }
-        if !w.next(&mut frame) {
-            return true;
-        }
+        true
     }
-    false
-}
 
-fn pops_agree(
-    w: World,
-    below: &Frame,
-    i: Interval,
-    out: &mut Listing<Region>,
-    pairs: &mut Vec<Pair>,
-) -> Result<bool, AllocError> {
-    let times = 2 * (w.clocks as u16 + 2);
-    pairs.truncate(0);
-    gather(w.finer(times), &scaled(below, times), i, pairs)?;
-    Ok(
-        lists_gathered(w, below, i, out, pairs.as_slice())
-            && lists_no_others(w, below, i, out, pairs.as_slice()),
-    )
+    // Whether nothing is listed for regions above that do not stand on the frame below.
+    fn lists_no_others(
+        self,
+        out: &mut Listing<Region>,
+        pairs: &[Pair],
+    ) -> Result<bool, AllocError> {
+        on_each_frame(self.world, |_, frame| {
+            let above = self.world.region(frame);
+            if count(pairs, above) != 0 {
+                return Ok(true);
+            }
+            self.list(above, out);
+            Ok(out.shapes().len() == 0)
+        })
+    }
+
+    fn agree(self, out: &mut Listing<Region>, pairs: &mut Vec<Pair>) -> Result<bool, AllocError> {
+        pairs.truncate(0);
+        let times = 2 * (self.world.clocks as u16 + 2);
+        self.finer(times).gather(pairs)?;
+        Ok(
+            self.lists_gathered(out, pairs.as_slice())
+                && self.lists_no_others(out, pairs.as_slice())?,
+        )
+    }
 }
 
 // Pops on every frame of the world, or on one of so many.
-fn all_pops_agree(heap: Global, w: World, i: Interval, step: u32) -> Result<bool, AllocError> {
+fn all_pops_agree(
+    heap: Global,
+    world: World,
+    interval: Interval,
+    step: u32,
+) -> Result<bool, AllocError> {
     let mut out = Listing::new(heap)?;
     let mut pairs = Vec::new(heap);
-    let mut frame = [0u16; 9];
-    for k in 0..100_000u32 {
-        if step != 0 && k % step == 0 && !pops_agree(w, &frame, i, &mut out, &mut pairs)? {
-            return Ok(false);
-        }
-        if !w.next(&mut frame) {
+    on_each_frame(world, |k, frame| {
+        if k.checked_rem(step) != Some(0) {
             return Ok(true);
         }
-    }
-    Ok(false)
+        let pops = Pops {
+            world,
+            below: *frame,
+            interval,
+        };
+        pops.agree(&mut out, &mut pairs)
+    })
 }
 
 #[test]
@@ -353,13 +369,17 @@ fn pop_lists_of_one_clock(rt: HostRuntime) -> Result<(), Fail> {
 #[test]
 fn longest_lists(rt: HostRuntime) -> Result<(), Fail> {
     let mut out = Listing::new(rt.alloc())?;
-    let w = world(3, 15, 10);
+    let question = |change| Question {
+        world: world(3, 15, 10),
+        change,
+        interval: ANY,
+    };
     let frame = [1, 2, 3, 4, 5, 6, 7, 8, 9];
-    list(w, Change::Push, ANY, &frame, &mut out);
+    question(Change::Push).list(&frame, &mut out);
     assert_eq!(rt; out.shapes().len(), 170);
-    list(w, Change::Assign(0), ANY, &frame, &mut out);
+    question(Change::Assign(0)).list(&frame, &mut out);
     assert_eq!(rt; out.shapes().len(), 306);
-    list(w, Change::Time, ANY, &[0, 1, 2, 3, 4, 5, 6, 7, 8], &mut out);
+    question(Change::Time).list(&[0, 1, 2, 3, 4, 5, 6, 7, 8], &mut out);
     assert_eq!(rt; out.shapes().len(), 306);
     Ok(())
 }
