@@ -1,15 +1,17 @@
-use Rattle.std.proofs.Common.{◌≡◌, ℕ, ◌*◌, Bool, true, false, leb, refl}
+use Rattle.std.proofs.Common.{◌≡◌, ℕ, Bool, true, leb, refl}
 use Rattle.std.proofs.lemmas.Bool.{and_parts, and_from, leb-true, ltb-true, le-leb, lt-ltb}
-use Rattle.abstraction.specs.Bounds.{AtLeast, AtMost, Inside, at_least, at_most, inside, UpperFits, Fits, upper_fits, fits}
+use Rattle.abstraction.specs.Bounds.{AtLeast, AtMost, Inside, bound, at_least, at_most, inside, UpperFits, Fits, upper_fits, fits}
 use Rattle.abstraction.specs.declared.interval.Interval.{Interval}
+use Rattle.abstraction.specs.declared.interval.Lower.{Lower}
+use Rattle.abstraction.specs.declared.interval.Lower.TheVariants.{From, Over}
 use Rattle.abstraction.specs.declared.interval.Upper.{Upper}
 use Rattle.abstraction.specs.declared.interval.Upper.TheVariants.{Upto, Under, Unbounded}
 
 -- the tests on intervals decide what they are meant to
 
-at_least_true : (s : Bool) (b v : ℕ) → at_least s b v ≡ true → AtLeast s b v
-at_least_true true b v h = ltb-true b v h
-at_least_true false b v h = leb-true b v h
+at_least_true : (D : ℕ) (l : Lower) (v : ℕ) → at_least D l v ≡ true → AtLeast D l v
+at_least_true D (From b) v h = leb-true _ _ h
+at_least_true D (Over b) v h = ltb-true _ _ h
 
 at_most_true : (D : ℕ) (u : Upper) (v : ℕ) → at_most D u v ≡ true → AtMost D u v
 at_most_true D (Upto b) v h = leb-true _ _ h
@@ -17,11 +19,11 @@ at_most_true D (Under b) v h = ltb-true _ _ h
 at_most_true D Unbounded v h = tt
 
 pub inside_true : (D : ℕ) (i : Interval) (v : ℕ) → inside D i v ≡ true → Inside D i v
-inside_true D i v h = let p = and_parts (at_least i.strict (i.lower * D) v) _ h in (at_least_true _ _ _ p.0, at_most_true D _ v p.1)
+inside_true D i v h = let p = and_parts (at_least D i.lower v) _ h in (at_least_true D _ v p.0, at_most_true D _ v p.1)
 
-at_least_from : (s : Bool) (b v : ℕ) → AtLeast s b v → at_least s b v ≡ true
-at_least_from true b v h = lt-ltb b v h
-at_least_from false b v h = le-leb b v h
+at_least_from : (D : ℕ) (l : Lower) (v : ℕ) → AtLeast D l v → at_least D l v ≡ true
+at_least_from D (From b) v h = le-leb _ _ h
+at_least_from D (Over b) v h = lt-ltb _ _ h
 
 at_most_from : (D : ℕ) (u : Upper) (v : ℕ) → AtMost D u v → at_most D u v ≡ true
 at_most_from D (Upto b) v h = le-leb _ _ h
@@ -29,7 +31,7 @@ at_most_from D (Under b) v h = lt-ltb _ _ h
 at_most_from D Unbounded v h = refl
 
 pub inside_from : (D : ℕ) (i : Interval) (v : ℕ) → Inside D i v → inside D i v ≡ true
-inside_from D i v h = and_from (at_least i.strict (i.lower * D) v) _ (at_least_from _ _ _ h.0) (at_most_from D _ v h.1)
+inside_from D i v h = and_from (at_least D i.lower v) _ (at_least_from D _ v h.0) (at_most_from D _ v h.1)
 
 upper_fits_true : (top : ℕ) (u : Upper) → upper_fits top u ≡ true → UpperFits top u
 upper_fits_true top (Upto b) h = leb-true b top h
@@ -42,7 +44,7 @@ upper_fits_from top (Under b) h = le-leb b top h
 upper_fits_from top Unbounded h = refl
 
 pub fits_true : (top : ℕ) (i : Interval) → fits top i ≡ true → Fits top i
-fits_true top i h = let p = and_parts (leb i.lower top) _ h in (leb-true _ _ p.0, upper_fits_true top i.upper p.1)
+fits_true top i h = let p = and_parts (leb (bound i.lower) top) _ h in (leb-true _ _ p.0, upper_fits_true top i.upper p.1)
 
 pub fits_from : (top : ℕ) (i : Interval) → Fits top i → fits top i ≡ true
-fits_from top i h = and_from (leb i.lower top) _ (le-leb _ _ h.0) (upper_fits_from top i.upper h.1)
+fits_from top i h = and_from (leb (bound i.lower) top) _ (le-leb _ _ h.0) (upper_fits_from top i.upper h.1)

@@ -1,8 +1,13 @@
 // Intervals of time with whole bounds.
 
-ghost use Rattle.std.specs.Prelude.{◌≡◌, true};
-ghost use Rattle.abstraction.specs.Bounds.{at_least, at_most, inside, Inside, fits as fitting, upper_fits, Fits};
+// A value keeps to it from the bound on, or only over it.
+#[derive(Clone, Copy, Debug, PartialEq, Eq)]
+pub enum Lower {
+    From(u8),
+    Over(u8),
+}
 
+// A value keeps to it up to the bound, or only under it, or always.
 #[derive(Clone, Copy, Debug, PartialEq, Eq)]
 pub enum Upper {
     Upto(u8),
@@ -10,10 +15,8 @@ pub enum Upper {
     Unbounded,
 }
 
-// From `lower`, which belongs to it unless `strict`, to `upper`.
 #[derive(Clone, Copy, Debug, PartialEq, Eq)]
 pub struct Interval {
-    pub lower: u8,
-    pub strict: bool,
+    pub lower: Lower,
     pub upper: Upper,
 }

@@ -3,7 +3,7 @@
 // What an abstraction of stack frames answers and owes, and the smallest one.
 
 ghost use Rattle.std.specs.Prelude.{◌≡◌, ℕ, ◌≤◌, true, List, [], ◌∷◌, length, IfOk};
-ghost use Rattle.abstraction.specs.Bounds.{at_least, at_most, inside, Inside, fits as fitting, upper_fits, Fits};
+ghost use Rattle.abstraction.specs.Bounds.{bound as bound_of, at_least, at_most, inside, Inside, fits as fitting, upper_fits, Fits};
 ghost use Rattle.abstraction.specs.Frames.{Frame};
 ghost use Rattle.abstraction.specs.Owes.{Answers, Meaning, ListsLawfully, Covers};
 ghost use Rattle.abstraction.specs.Room.{added, shapes as shapes_of};
@@ -17,19 +17,31 @@ mod interval;
 mod listing;
 mod scope;
 
-pub use interval::{Interval, Upper};
+pub use interval::{Interval, Lower, Upper};
 pub use listing::Listing;
 pub use scope::Scope;
 
 const ROOM: usize = 1_048_576;
 
-fn above(strict: bool, bound: u128, value: u128) -> bool
-    ensures { result ≡ at_least strict bound value }
-{
-    if strict {
-        bound < value
-    } else {
-        bound <= value
+impl Lower {
+    // The whole number that it names.
+    pub fn bound(self) -> u8
+        ensures { result ≡ bound_of self }
+    {
+        match self {
+            Lower::From(b) | Lower::Over(b) => b,
+        }
+    }
+
+    // Whether a value, in parts of 1 / scale, keeps to the bound.
+    pub fn allows(self, scale: u64, value: u64) -> bool
+        ensures { result ≡ at_least scale self value }
+    {
+        let (d, v) = (scale as u128, value as u128);
+        match self {
+            Lower::From(b) => b as u128 * d <= v,
+            Lower::Over(b) => b as u128 * d < v,
+        }
     }
 }
 
@@ -48,14 +60,19 @@ impl Upper {
 }
 
 impl Interval {
+    // All values.
+    pub const ANY: Interval = Interval {
+        lower: Lower::From(0),
+        upper: Upper::Unbounded,
+    };
+
     // Whether a value, in parts of 1 / scale, lies in the interval.
     pub fn contains(self, scale: u64, value: u64) -> bool
         ensures value { result ≡ inside scale self value }
         ensures holds { result ≡ true → Inside scale self value }
         ensures only { Inside scale self value → result ≡ true }
     {
-        let (d, v) = (scale as u128, value as u128);
-        above(self.strict, self.lower as u128 * d, v) && self.upper.allows(scale, value)
+        self.lower.allows(scale, value) && self.upper.allows(scale, value)
     }
 
     // Whether each finite bound is at most top.
@@ -64,7 +81,7 @@ impl Interval {
         ensures holds { result ≡ true → Fits top self }
         ensures only { Fits top self → result ≡ true }
     {
-        self.lower as u64 <= top
+        self.lower.bound() as u64 <= top
             && match self.upper {
                 Upper::Upto(b) | Upper::Under(b) => b as u64 <= top,
                 Upper::Unbounded => true,

@@ -2,10 +2,12 @@ use Rattle.std.proofs.Common.{◌≡◌, ℕ, zero, suc, ◌≤◌, Bool, true, 
 use Rattle.std.proofs.lemmas.Bool.{and_parts, and_from, eqb-true, leb-true}
 use Rattle.fault.specs.Faults.{Outcome}
 use Rattle.fault.specs.Faults.Outcome.{accepted}
-use Rattle.abstraction.specs.Bounds.{upper_fits}
+use Rattle.abstraction.specs.Bounds.{bound, upper_fits}
+use Rattle.abstraction.specs.declared.interval.Lower.{Lower}
+use Rattle.abstraction.specs.declared.interval.Lower.TheVariants.{From, Over}
 use Rattle.abstraction.specs.declared.interval.Upper.{Upper}
 use Rattle.abstraction.specs.declared.interval.Upper.TheVariants.{Upto, Under, Unbounded}
-use Rattle.automaton.specs.Rules.{unless, argument_fits, action, upper, interval, rule, read_rule, kind_of, argument_of, bound_of, flag_of, written}
+use Rattle.automaton.specs.Rules.{unless, argument_fits, action, lower, upper, interval, rule, read_rule, kind_of, argument_of, over_flag, bound_of, flag_of, written}
 use Rattle.automaton.specs.Lawful.{names, lawful, Reads}
 use Rattle.automaton.specs.declared.rule.Rule.{Rule}
 use Rattle.automaton.specs.declared.rule.RuleNumbers.{RuleNumbers}
@@ -38,15 +40,15 @@ upper_back (Upto b) = refl
 upper_back (Under b) = refl
 upper_back Unbounded = refl
 
-strict_back : (b : Bool) → eqb (cond b 1 0) 1 ≡ b
-strict_back true = refl
-strict_back false = refl
+lower_back : (l : Lower) → lower (over_flag l) (bound l) ≡ l
+lower_back (From b) = refl
+lower_back (Over b) = refl
 
 rule_back : (r : Rule) → rule (written r) ≡ r
 rule_back r =
     ap (λ a. record { from = r.from; to = r.to; action = a; interval = interval (written r) }) (action_back r.action)
-    ∙ ap (λ s. record { from = r.from; to = r.to; action = r.action; interval = record { lower = r.interval.lower; strict = s; upper = upper (flag_of r.interval.upper) (bound_of r.interval.upper) } }) (strict_back r.interval.strict)
-    ∙ ap (λ u. record { from = r.from; to = r.to; action = r.action; interval = record { lower = r.interval.lower; strict = r.interval.strict; upper = u } }) (upper_back r.interval.upper)
+    ∙ ap (λ l. record { from = r.from; to = r.to; action = r.action; interval = record { lower = l; upper = upper (flag_of r.interval.upper) (bound_of r.interval.upper) } }) (lower_back r.interval.lower)
+    ∙ ap (λ u. record { from = r.from; to = r.to; action = r.action; interval = record { lower = r.interval.lower; upper = u } }) (upper_back r.interval.upper)
 
 kind_small : (a : Action) → leb (kind_of a) 4 ≡ true
 kind_small Move = refl
@@ -62,24 +64,24 @@ argument_named z (Assign k) h = h
 argument_named z (Push l) h = h
 argument_named z (Pop l) h = h
 
-strict_small : (b : Bool) → leb (cond b 1 0) 1 ≡ true
-strict_small true = refl
-strict_small false = refl
+over_small : (l : Lower) → leb (over_flag l) 1 ≡ true
+over_small (From b) = refl
+over_small (Over b) = refl
 
-bounds_written : (lo : ℕ) (s : Bool) (u : Upper) → leb lo 15 ≡ true → upper_fits 15 u ≡ true → (leb lo 15 && leb (bound_of u) 15) && (leb (cond s 1 0) 1 && (leb (flag_of u) 2 && (ltb (flag_of u) 2 || eqb (bound_of u) 0))) ≡ true
-bounds_written lo s (Upto b) h k = and_from _ _ (and_from _ _ h k) (and_from _ _ (strict_small s) refl)
-bounds_written lo s (Under b) h k = and_from _ _ (and_from _ _ h k) (and_from _ _ (strict_small s) refl)
-bounds_written lo s Unbounded h k = and_from _ _ (and_from _ _ h refl) (and_from _ _ (strict_small s) refl)
+bounds_written : (l : Lower) (u : Upper) → leb (bound l) 15 ≡ true → upper_fits 15 u ≡ true → (leb (bound l) 15 && leb (bound_of u) 15) && (leb (over_flag l) 1 && (leb (flag_of u) 2 && (ltb (flag_of u) 2 || eqb (bound_of u) 0))) ≡ true
+bounds_written l (Upto b) h k = and_from _ _ (and_from _ _ h k) (and_from _ _ (over_small l) refl)
+bounds_written l (Under b) h k = and_from _ _ (and_from _ _ h k) (and_from _ _ (over_small l) refl)
+bounds_written l Unbounded h k = and_from _ _ (and_from _ _ h refl) (and_from _ _ (over_small l) refl)
 
 reads_written : (z : Sizes) (r : Rule) → lawful z r ≡ true → read_rule z (written r) ≡ accepted r
 reads_written z r h =
     let p = and_parts (ltb r.from z.states && ltb r.to z.states) _ h in
     let q = and_parts (names z r.action) _ p.1 in
-    let b = and_parts (leb r.interval.lower 15) _ q.1 in
+    let b = and_parts (leb (bound r.interval.lower) 15) _ q.1 in
     passes _ 4 _ _ p.0
     (passes _ 5 _ _ (kind_small r.action)
     (passes _ 6 _ _ (argument_named z r.action q.0)
-    (passes _ 7 _ _ (bounds_written r.interval.lower r.interval.strict r.interval.upper b.0 b.1)
+    (passes _ 7 _ _ (bounds_written r.interval.lower r.interval.upper b.0 b.1)
     (ap accepted (rule_back r)))))
 
 -- writing back what was read
@@ -100,10 +102,10 @@ argument_read z (suc (suc (suc zero))) a h t = (refl, t)
 argument_read z (suc (suc (suc (suc zero)))) a h t = (refl, t)
 argument_read z (suc (suc (suc (suc (suc k))))) a h t = absurd (omega arith)
 
-strict_read : (f : ℕ) → f ≤ 1 → cond (eqb f 1) 1 0 ≡ f
-strict_read zero h = refl
-strict_read (suc zero) h = refl
-strict_read (suc (suc f)) h = absurd (omega arith)
+lower_read : (f b : ℕ) → f ≤ 1 → (bound (lower f b) ≡ b) × (over_flag (lower f b) ≡ f)
+lower_read zero b h = (refl, refl)
+lower_read (suc zero) b h = (refl, refl)
+lower_read (suc (suc f)) b h = absurd (omega arith)
 
 flag_read : (f b : ℕ) → f ≤ 2 → flag_of (upper f b) ≡ f
 flag_read zero b h = refl
@@ -131,14 +133,16 @@ written_read z n r h =
     let f = and_parts (leb n.upper_flag 2) _ s.1 in
     let f2 : n.upper_flag ≤ 2 = leb-true _ _ f.0 in
     let u = bound_read n.upper_flag n.upper f2 f.1 l.1 in
+    let low = lower_read n.lower_flag n.lower (leb-true _ _ s.0) in
     let e : rule n ≡ r = same_accepted (rule n) r b.1 in
     subst (λ (x : Rule). (written x ≡ n) × (lawful z x ≡ true)) e (
-      (ap (λ v. record { from = n.from; to = n.to; kind = v; argument = argument_of (action n.kind n.argument); lower = n.lower; lower_flag = cond (eqb n.lower_flag 1) 1 0; upper = bound_of (upper n.upper_flag n.upper); upper_flag = flag_of (upper n.upper_flag n.upper) }) (kind_read n.kind n.argument k)
-          ∙ ap (λ v. record { from = n.from; to = n.to; kind = n.kind; argument = v; lower = n.lower; lower_flag = cond (eqb n.lower_flag 1) 1 0; upper = bound_of (upper n.upper_flag n.upper); upper_flag = flag_of (upper n.upper_flag n.upper) }) g.0
-          ∙ ap (λ v. record { from = n.from; to = n.to; kind = n.kind; argument = n.argument; lower = n.lower; lower_flag = v; upper = bound_of (upper n.upper_flag n.upper); upper_flag = flag_of (upper n.upper_flag n.upper) }) (strict_read n.lower_flag (leb-true _ _ s.0))
+      (ap (λ v. record { from = n.from; to = n.to; kind = v; argument = argument_of (action n.kind n.argument); lower = bound (lower n.lower_flag n.lower); lower_flag = over_flag (lower n.lower_flag n.lower); upper = bound_of (upper n.upper_flag n.upper); upper_flag = flag_of (upper n.upper_flag n.upper) }) (kind_read n.kind n.argument k)
+          ∙ ap (λ v. record { from = n.from; to = n.to; kind = n.kind; argument = v; lower = bound (lower n.lower_flag n.lower); lower_flag = over_flag (lower n.lower_flag n.lower); upper = bound_of (upper n.upper_flag n.upper); upper_flag = flag_of (upper n.upper_flag n.upper) }) g.0
+          ∙ ap (λ v. record { from = n.from; to = n.to; kind = n.kind; argument = n.argument; lower = v; lower_flag = over_flag (lower n.lower_flag n.lower); upper = bound_of (upper n.upper_flag n.upper); upper_flag = flag_of (upper n.upper_flag n.upper) }) low.0
+          ∙ ap (λ v. record { from = n.from; to = n.to; kind = n.kind; argument = n.argument; lower = n.lower; lower_flag = v; upper = bound_of (upper n.upper_flag n.upper); upper_flag = flag_of (upper n.upper_flag n.upper) }) low.1
           ∙ ap (λ v. record { from = n.from; to = n.to; kind = n.kind; argument = n.argument; lower = n.lower; lower_flag = n.lower_flag; upper = v; upper_flag = flag_of (upper n.upper_flag n.upper) }) u.0
           ∙ ap (λ v. record { from = n.from; to = n.to; kind = n.kind; argument = n.argument; lower = n.lower; lower_flag = n.lower_flag; upper = n.upper; upper_flag = v }) (flag_read n.upper_flag n.upper f2)),
-      and_from _ _ p.0 (and_from _ _ g.1 (and_from _ _ l.0 u.1)),
+      and_from _ _ p.0 (and_from _ _ g.1 (and_from _ _ (ap (λ v. leb v 15) low.0 ∙ l.0) u.1)),
     )
 
 -- eight numbers are read exactly when they write a lawful rule

@@ -4,6 +4,9 @@ use Rattle.fault.specs.Faults.Outcome.{accepted, refused}
 use Rattle.fault.specs.declared.Layer.TheVariants.{Case}
 use Rattle.fault.specs.declared.Place.TheVariants.{Row}
 use Rattle.abstraction.specs.declared.interval.Interval.{Interval}
+use Rattle.abstraction.specs.Bounds.{bound}
+use Rattle.abstraction.specs.declared.interval.Lower.{Lower}
+use Rattle.abstraction.specs.declared.interval.Lower.TheVariants.{From, Over}
 use Rattle.abstraction.specs.declared.interval.Upper.{Upper}
 use Rattle.abstraction.specs.declared.interval.Upper.TheVariants.{Upto, Under, Unbounded}
 use Rattle.automaton.specs.declared.rule.Rule.{Rule}
@@ -37,11 +40,14 @@ abbrev pub action : ℕ → ℕ → Action
 action kind a =
     cond (kind == 0) Move (cond (kind == 1) (Test a) (cond (kind == 2) (Assign a) (cond (kind == 3) (Push a) (Pop a))))
 
+abbrev pub lower : ℕ → ℕ → Lower
+lower flag b = cond (flag == 1) (Over b) (From b)
+
 abbrev pub upper : ℕ → ℕ → Upper
 upper flag b = cond (flag == 0) (Upto b) (cond (flag == 1) (Under b) Unbounded)
 
 abbrev pub interval : RuleNumbers → Interval
-interval n = record { lower = n.lower; strict = (n.lower_flag == 1); upper = upper n.upper_flag n.upper }
+interval n = record { lower = lower n.lower_flag n.lower; upper = upper n.upper_flag n.upper }
 
 abbrev pub rule : RuleNumbers → Rule
 rule n = record { from = n.from; to = n.to; action = action n.kind n.argument; interval = interval n }
@@ -70,6 +76,10 @@ argument_of (Assign k) = k
 argument_of (Push l) = l
 argument_of (Pop l) = l
 
+abbrev pub over_flag : Lower → ℕ
+over_flag (From b) = 0
+over_flag (Over b) = 1
+
 abbrev pub bound_of : Upper → ℕ
 bound_of (Upto b) = b
 bound_of (Under b) = b
@@ -87,8 +97,8 @@ written r =
       to = r.to;
       kind = kind_of r.action;
       argument = argument_of r.action;
-      lower = r.interval.lower;
-      lower_flag = cond r.interval.strict 1 0;
+      lower = bound r.interval.lower;
+      lower_flag = over_flag r.interval.lower;
       upper = bound_of r.interval.upper;
       upper_flag = flag_of r.interval.upper;
     }

@@ -3,11 +3,11 @@
 ghost use Rattle.std.specs.Prelude.{◌≡◌, ◌≤◌, true};
 ghost use Rattle.fault.specs.Faults.{outcome};
 ghost use Rattle.automaton.specs.declared.rule.Rule.{Rule};
-ghost use Rattle.automaton.specs.Rules.{states_fit, argument_fits, bounds_fit, action as acting, interval as interval_of, upper as upper_of, read_rule};
+ghost use Rattle.automaton.specs.Rules.{states_fit, argument_fits, bounds_fit, action as acting, interval as interval_of, lower as lower_of, upper as upper_of, read_rule};
 ghost use Rattle.automaton.specs.Lawful.{Reads};
 
 use super::rule::{Action, Rule, RuleNumbers, Sizes};
-use abstraction::{Interval, Upper};
+use abstraction::{Interval, Lower, Upper};
 use fault::{Fault, Refusal};
 
 fn states_fit(sizes: Sizes, n: RuleNumbers) -> bool
@@ -46,6 +46,15 @@ fn action(kind: u64, argument: u8) -> Action
     }
 }
 
+fn lower(flag: u64, bound: u8) -> Lower
+    ensures { result ≡ lower_of flag bound }
+{
+    match flag {
+        1 => Lower::Over(bound),
+        _ => Lower::From(bound),
+    }
+}
+
 fn upper(flag: u64, bound: u8) -> Upper
     ensures { result ≡ upper_of flag bound }
 {
@@ -74,11 +83,9 @@ impl Rule {
         if !bounds_fit(n) {
             return Err(Fault::of_call(Refusal::BoundUnfit));
         }
-        let upper = upper(n.upper_flag, n.upper as u8);
         let interval = Interval {
-            lower: n.lower as u8,
-            strict: n.lower_flag == 1,
-            upper,
+            lower: lower(n.lower_flag, n.lower as u8),
+            upper: upper(n.upper_flag, n.upper as u8),
         };
         Ok(Rule {
             from: n.from as u8,

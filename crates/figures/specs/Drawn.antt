@@ -1,4 +1,5 @@
 use Rattle.std.specs.Prelude.{ℕ, false, List, [], ◌∷◌}
+use Rattle.abstraction.specs.declared.interval.Lower.TheVariants.{From}
 use Rattle.abstraction.specs.declared.interval.Upper.TheVariants.{Upto, Under}
 use Rattle.automaton.specs.declared.model.Opening.{Opening}
 use Rattle.automaton.specs.declared.rule.Action.TheVariants.{Test, Push, Pop}
@@ -42,7 +43,7 @@ popped d = fire_after 1 0 (aged d)
 -- the rules, where the last one tests clock k
 abbrev pub rules : ℕ → List Rule
 rules k =
-    record { from = 0; to = 1; action = Push 1; interval = record { lower = 0; strict = false; upper = Upto 0 } }
-    ∷ record { from = 1; to = 2; action = Pop 1; interval = record { lower = 1; strict = false; upper = Upto 2 } }
-    ∷ record { from = 2; to = 3; action = Test k; interval = record { lower = 0; strict = false; upper = Under 1 } }
+    record { from = 0; to = 1; action = Push 1; interval = record { lower = From 0; upper = Upto 0 } }
+    ∷ record { from = 1; to = 2; action = Pop 1; interval = record { lower = From 1; upper = Upto 2 } }
+    ∷ record { from = 2; to = 3; action = Test k; interval = record { lower = From 0; upper = Under 1 } }
     ∷ []

@@ -1,5 +1,6 @@
 use Rattle.std.specs.Prelude.{ℕ, false, List, [], ◌∷◌}
 use Rattle.abstraction.specs.declared.interval.Interval.{Interval}
+use Rattle.abstraction.specs.declared.interval.Lower.TheVariants.{From}
 use Rattle.abstraction.specs.declared.interval.Upper.TheVariants.{Upto}
 use Rattle.abstraction.specs.declared.scope.Scope.{Scope}
 use Rattle.automaton.specs.Runs.{Automaton}
@@ -42,4 +43,4 @@ one = record { clocks = 1; top = 1 }
 
 -- exactly 0
 abbrev pub at_zero : Interval
-at_zero = record { lower = 0; strict = false; upper = Upto 0 }
+at_zero = record { lower = From 0; upper = Upto 0 }

@@ -2,8 +2,10 @@ use Rattle.std.specs.Prelude.{◌≡◌, ℕ, zero, suc, ◌*◌, ◌≤◌, Boo
 use Rattle.std.proofs.Common.{sym, ap, subst, ◌∙◌, arith, not-suc-le-zero, le_of_suc-le-suc, mul-le-mul_right, zero-mul, add-mul, mul-one, one-mul}
 use Rattle.std.proofs.lemmas.Bool.{leb-true, le-leb, leb-false, ltb-false, cond-true}
 use Rattle.abstraction.specs.Lists.{In}
-use Rattle.abstraction.specs.Bounds.{AtLeast, AtMost, at_most}
+use Rattle.abstraction.specs.Bounds.{bound, AtLeast, AtMost, at_most}
 use Rattle.abstraction.specs.Owes.{Lawfully, ListsLawfully, Covers}
+use Rattle.abstraction.specs.declared.interval.Lower.{Lower}
+use Rattle.abstraction.specs.declared.interval.Lower.TheVariants.{From, Over}
 use Rattle.abstraction.specs.declared.interval.Upper.{Upper}
 use Rattle.abstraction.specs.declared.interval.Upper.TheVariants.{Upto, Under, Unbounded}
 use Rattle.abstraction.specs.declared.scope.Scope.{Scope}
@@ -33,7 +35,7 @@ lists a w small =
       times = λ s h. one_listed a w s h;
       tests = λ s h k i l f. one_listed a w s h;
       assigns = λ s h k i l f. one_listed a w s h;
-      pushes = λ s h i f. one_listed a w (record { age = i.lower }) (le-leb i.lower w.top f.0);
+      pushes = λ s h i f. one_listed a w (record { age = bound i.lower }) (le-leb (bound i.lower) w.top f.0);
       pops = λ s u h g i f. pop_listed a w s h (at_most 1 i.upper u.age);
     }
 
@@ -43,9 +45,9 @@ here : (s : Floor) → In (s ∷ []) s
 here s = (0, (omega arith, λ d. refl))
 
 -- an age in the interval is at least its lower bound
-above_lower : (b : Bool) (n v : ℕ) → AtLeast b n v → n ≤ v
-above_lower true n v h = omega (arith, h)
-above_lower false n v h = h
+above_lower : (D : ℕ) (l : Lower) (v : ℕ) → AtLeast D l v → bound l * D ≤ v
+above_lower D (From b) v h = h
+above_lower D (Over b) v h = omega (arith, h)
 
 -- an age that is at least n units and keeps to the upper bound shows that something so old can
 keeps : (D : ℕ) → 1 ≤ D → (u : Upper) (n v : ℕ) → n * D ≤ v → AtMost D u v → (b : Bool) → at_most 1 u n ≡ b → b ≡ true
@@ -67,7 +69,7 @@ covers a w D small one =
       times = λ s f c d. (s, here s, omega (arith, c.covers));
       tests = λ s f c k i l b ins. (s, here s, c.covers);
       assigns = λ s f c k i l b v ins. (s, here s, c.covers);
-      pushes = λ s f c i b v ins. (record { age = i.lower }, here _, above_lower i.strict (i.lower * D) v ins.0);
+      pushes = λ s f c i b v ins. (record { age = bound i.lower }, here _, above_lower D i.lower v ins.0);
       pops = λ s u f g c e i b ins k ka.
           (s, subst (λ xs. In xs s) (sym (cond-true _ (s ∷ []) [] (keeps D one i.upper u.age g.age e.covers ins.1 _ refl))) (here s), omega (arith, c.covers));
       nests = λ s t f c l h. let m = mul-le-mul_right D (leb-true t.age s.age h) in omega (arith, m, c.covers);

@@ -1,7 +1,7 @@
 use Rattle.std.specs.Prelude.{◌*◌, ◌≤◌, cond, List, [], ◌∷◌, nat_le}
 use Rattle.abstraction.specs.Owes.{Answers, Meaning}
 use Rattle.abstraction.specs.declared.interval.Interval.{Interval}
-use Rattle.abstraction.specs.Bounds.{at_most}
+use Rattle.abstraction.specs.Bounds.{bound, at_most}
 use Rattle.floors.specs.declared.Floor.{Floor}
 use Rattle.floors.specs.declared.Floors.{Floors}
 
@@ -18,7 +18,7 @@ floors a =
       time = λ w s. s ∷ [];
       test = λ w k i s. s ∷ [];
       assign = λ w k i s. s ∷ [];
-      push = λ w i s. (record { age = i.lower }) ∷ [];
+      push = λ w i s. (record { age = bound i.lower }) ∷ [];
       pop = λ w i s u. popped_list i s u;
       within = λ w s t. nat_le t.age s.age;
     }

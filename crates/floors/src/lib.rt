@@ -70,7 +70,7 @@ impl Abstraction for Floors {
 
     fn push(&self, scope: Scope, i: Interval, s: Floor, out: &mut Listing<Floor>) {
         out.only(Floor {
-            age: i.lower as u64,
+            age: i.lower.bound() as u64,
         });
     }
 

@@ -2,6 +2,8 @@ use Rattle.std.specs.Prelude.{ℕ, ◌+◌, Bool, true, not, ◌&&◌, ◌||◌,
 use Rattle.std.specs.List.{list_all, enumerate_from}
 use Rattle.abstraction.specs.Bounds.{fits}
 use Rattle.abstraction.specs.declared.interval.Interval.{Interval}
+use Rattle.abstraction.specs.declared.interval.Lower.{Lower}
+use Rattle.abstraction.specs.declared.interval.Lower.TheVariants.{From, Over}
 use Rattle.abstraction.specs.declared.interval.Upper.{Upper}
 use Rattle.abstraction.specs.declared.interval.Upper.TheVariants.{Upto, Under, Unbounded}
 use Rattle.abstraction.specs.declared.scope.Scope.{Scope}
@@ -31,8 +33,9 @@ abbrev pub lawful : Scope → Region → Bool
 lawful w r = small w && (length r.items == 9 && in_order w r)
 
 -- a value with this whole part, with or without a fraction, keeps to the bounds
-abbrev pub above : ℕ → Bool → Item → Bool
-above b strict x = nat_lt b x.whole || (x.whole == b && not (strict && x.rank == 0))
+abbrev pub above : Lower → Item → Bool
+above (From b) x = nat_le b x.whole
+above (Over b) x = nat_lt b x.whole || (x.whole == b && not (x.rank == 0))
 
 abbrev pub below : Upper → Item → Bool
 below (Upto b) x = nat_lt x.whole b || (x.whole == b && x.rank == 0)
@@ -40,7 +43,7 @@ below (Under b) x = nat_lt x.whole b
 below Unbounded x = true
 
 abbrev pub lies_in : Interval → Item → Bool
-lies_in i x = above i.lower i.strict x && below i.upper x
+lies_in i x = above i.lower x && below i.upper x
 
 -- the question is about a lawful region, a clock that is there and bounds up to top
 abbrev pub asks : Scope → ℕ → Interval → Region → Bool

@@ -1,4 +1,4 @@
-use Rattle.std.specs.Prelude.{◌≡◌, ℕ, zero, suc, ◌+◌, ◌-◌, ◌*◌, ◌<◌, ◌≤◌, Bool, true, false, not, ◌&&◌, ◌||◌, ltb, ◌⊎◌, List, [], ◌∷◌, map, length, get_or, drop, replicate, ◌==◌, ◌≢◌, nat_lt, slice_index_or, slice_set, refl}
+use Rattle.std.specs.Prelude.{◌≡◌, ℕ, zero, suc, ◌+◌, ◌-◌, ◌*◌, ◌<◌, ◌≤◌, Bool, true, false, not, ◌&&◌, ◌||◌, ltb, ◌⊎◌, List, [], ◌∷◌, map, length, get_or, drop, replicate, ◌==◌, ◌≢◌, nat_le, nat_lt, slice_index_or, slice_set, refl}
 use Rattle.std.proofs.Common.{sym, ap, ◌∙◌, subst, inl, inr, ⊎_elim, arith, mul-one, length-set}
 use Rattle.std.proofs.lemmas.List.{length-map, get_or-map, get_or-take, get_or-drop, get_or_past, get_or-set_same, get_or-set_other, drop-set-lt, drop-map, ext_get_or, length-replicate, get_or-replicate, length-drop}
 use Rattle.std.proofs.lemmas.List.FromFn.{length-map-range_with_len, get_or-map-range_with_len}
@@ -7,6 +7,8 @@ use Rattle.std.proofs.lemmas.Bool.Decides.{nat_tests}
 use Rattle.std.proofs.lemmas.Nat.{mul-le}
 use Rattle.abstraction.specs.Bounds.{fits}
 use Rattle.abstraction.specs.declared.interval.Interval.{Interval}
+use Rattle.abstraction.specs.declared.interval.Lower.{Lower}
+use Rattle.abstraction.specs.declared.interval.Lower.TheVariants.{From, Over}
 use Rattle.abstraction.specs.declared.interval.Upper.{Upper}
 use Rattle.abstraction.specs.declared.interval.Upper.TheVariants.{Upto, Under, Unbounded}
 use Rattle.abstraction.specs.declared.scope.Scope.{Scope}
@@ -32,8 +34,9 @@ use Rattle.region.specs.Times.{exactly_adds}
 
 -- whether an item lies in an interval depends on its whole part and on whether it has a fraction
 
-above_like : (b : ℕ) (s : Bool) (x y : Item) → x.whole ≡ y.whole → (x.rank == 0) ≡ (y.rank == 0) → above b s x ≡ above b s y
-above_like b s x y p q = ap (λ w. nat_lt b w || (w == b && not (s && x.rank == 0))) p ∙ ap (λ e. nat_lt b y.whole || (y.whole == b && not (s && e))) q
+above_like : (l : Lower) (x y : Item) → x.whole ≡ y.whole → (x.rank == 0) ≡ (y.rank == 0) → above l x ≡ above l y
+above_like (From b) x y p q = ap (λ w. nat_le b w) p
+above_like (Over b) x y p q = ap (λ w. nat_lt b w || (w == b && not (x.rank == 0))) p ∙ ap (λ e. nat_lt b y.whole || (y.whole == b && not e)) q
 
 below_like : (u : Upper) (x y : Item) → x.whole ≡ y.whole → (x.rank == 0) ≡ (y.rank == 0) → below u x ≡ below u y
 below_like (Upto b) x y p q = ap (λ w. nat_lt w b || (w == b && x.rank == 0)) p ∙ ap (λ e. nat_lt y.whole b || (y.whole == b && e)) q
@@ -41,7 +44,7 @@ below_like (Under b) x y p q = ap (λ w. ltb w b) p
 below_like Unbounded x y p q = refl
 
 pub lies_like : (i : Interval) (x y : Item) → x.whole ≡ y.whole → (x.rank == 0) ≡ (y.rank == 0) → lies_in i x ≡ lies_in i y
-lies_like i x y p q = ap (λ b. b && below i.upper x) (above_like i.lower i.strict x y p q) ∙ ap (λ b. above i.lower i.strict y && b) (below_like i.upper x y p q)
+lies_like i x y p q = ap (λ b. b && below i.upper x) (above_like i.lower x y p q) ∙ ap (λ b. above i.lower y && b) (below_like i.upper x y p q)
 
 pub same_zero : (a b : ℕ) → (a ≡ 0 → b ≡ 0) → (b ≡ 0 → a ≡ 0) → (a == 0) ≡ (b == 0)
 same_zero a b f g = grind (arith, nat_tests)

@@ -3,8 +3,10 @@ use Rattle.std.proofs.Common.{ap, ◌∙◌, inl, inr, ⊎_elim, arith, add-mul}
 use Rattle.std.proofs.lemmas.Nat.{mod_below, div-add-mod', mul-le}
 use Rattle.std.proofs.lemmas.Bool.{cases_order, and_from, and_parts}
 use Rattle.std.proofs.lemmas.Bool.Decides.{nat_tests}
-use Rattle.abstraction.specs.Bounds.{AtLeast, AtMost, Inside, UpperFits, Fits}
+use Rattle.abstraction.specs.Bounds.{bound, AtLeast, AtMost, Inside, UpperFits, Fits}
 use Rattle.abstraction.specs.declared.interval.Interval.{Interval}
+use Rattle.abstraction.specs.declared.interval.Lower.{Lower}
+use Rattle.abstraction.specs.declared.interval.Lower.TheVariants.{From, Over}
 use Rattle.abstraction.specs.declared.interval.Upper.{Upper}
 use Rattle.abstraction.specs.declared.interval.Upper.TheVariants.{Upto, Under, Unbounded}
 use Rattle.ranking.specs.declared.Item.{Item}
@@ -24,9 +26,9 @@ against b v D pos =
 
 -- the item x has the whole part and the zero of the value v
 module _ (top D v : ℕ) (x : Item) (pos : 0 < D) (whole : x.whole ≡ min (v / D) (top + 1)) (zeros : (x.rank ≡ 0 → v % D ≡ 0) × (v % D ≡ 0 → x.rank ≡ 0)) where
-  above_from : (b : ℕ) (s : Bool) → b ≤ top → AtLeast s (b * D) v → above b s x ≡ true
-  above_from b true le h = let a = against b v D pos in let z = zeros.0 in grind (arith, nat_tests)
-  above_from b false le h = let a = against b v D pos in grind (arith, nat_tests)
+  above_from : (l : Lower) → bound l ≤ top → AtLeast D l v → above l x ≡ true
+  above_from (From b) le h = let a = against b v D pos in grind (arith, nat_tests)
+  above_from (Over b) le h = let a = against b v D pos in let z = zeros.0 in grind (arith, nat_tests)
 
   below_from : (u : Upper) → UpperFits top u → AtMost D u v → below u x ≡ true
   below_from (Upto b) le h = let a = against b v D pos in let z = zeros.1 in grind (arith, nat_tests)
@@ -35,11 +37,11 @@ module _ (top D v : ℕ) (x : Item) (pos : 0 < D) (whole : x.whole ≡ min (v / 
 
   -- it lies in each interval that the value lies in
   pub lies_from : (i : Interval) → Fits top i → Inside D i v → lies_in i x ≡ true
-  lies_from i f h = and_from (above i.lower i.strict x) (below i.upper x) (above_from i.lower i.strict f.0 h.0) (below_from i.upper f.1 h.1)
+  lies_from i f h = and_from (above i.lower x) (below i.upper x) (above_from i.lower f.0 h.0) (below_from i.upper f.1 h.1)
 
-  above_to : (b : ℕ) (s : Bool) → b ≤ top → above b s x ≡ true → AtLeast s (b * D) v
-  above_to b true le h = let a = against b v D pos in let z = zeros.1 in grind (arith, nat_tests)
-  above_to b false le h = let a = against b v D pos in grind (arith, nat_tests)
+  above_to : (l : Lower) → bound l ≤ top → above l x ≡ true → AtLeast D l v
+  above_to (From b) le h = let a = against b v D pos in grind (arith, nat_tests)
+  above_to (Over b) le h = let a = against b v D pos in let z = zeros.1 in grind (arith, nat_tests)
 
   below_to : (u : Upper) → UpperFits top u → below u x ≡ true → AtMost D u v
   below_to (Upto b) le h = let a = against b v D pos in let z = zeros.0 in grind (arith, nat_tests)
@@ -49,5 +51,5 @@ module _ (top D v : ℕ) (x : Item) (pos : 0 < D) (whole : x.whole ≡ min (v / 
   -- and in no other
   pub lies_to : (i : Interval) → Fits top i → lies_in i x ≡ true → Inside D i v
   lies_to i f h =
-      let p = and_parts (above i.lower i.strict x) (below i.upper x) h in
-      (above_to i.lower i.strict f.0 p.0, below_to i.upper f.1 p.1)
+      let p = and_parts (above i.lower x) (below i.upper x) h in
+      (above_to i.lower f.0 p.0, below_to i.upper f.1 p.1)

@@ -17,7 +17,7 @@ ghost use Rattle.region.specs.Laws.{FramesOnce, ListsExactly, ListsNothing};
 ghost use Rattle.region.specs.Regions.{regions, covering};
 ghost use Rattle.region.specs.Owing.{lists_lawfully};
 
-use abstraction::{Abstraction, Interval, Listing, Scope, Upper};
+use abstraction::{Abstraction, Interval, Listing, Lower, Scope, Upper};
 use merging::pops;
 use ranking::{Item, Region, ceiling, clocks_in_use, closed, items_in_use, join, top_rank, turned};
 use std::array::from_fn;
@@ -29,10 +29,13 @@ fn small(scope: Scope) -> bool
 }
 
 // Whether a value with this whole part, with or without a fraction, keeps to the lower bound.
-fn above(bound: u8, strict: bool, item: Item) -> bool
-    ensures { result ≡ above_of bound strict item }
+fn above(bound: Lower, item: Item) -> bool
+    ensures { result ≡ above_of bound item }
 {
-    bound < item.whole || (item.whole == bound && !(strict && item.rank == 0))
+    match bound {
+        Lower::From(b) => b <= item.whole,
+        Lower::Over(b) => b < item.whole || (item.whole == b && item.rank != 0),
+    }
 }
 
 // Whether it keeps to the upper one.
@@ -49,7 +52,7 @@ fn below(bound: Upper, item: Item) -> bool
 fn inside(interval: Interval, item: Item) -> bool
     ensures { result ≡ lies_in interval item }
 {
-    above(interval.lower, interval.strict, item) && below(interval.upper, item)
+    above(interval.lower, item) && below(interval.upper, item)
 }
 
 fn item_at(region: Region, place: usize) -> Item
@@ -370,12 +373,6 @@ mod tests {
     use super::*;
     use std::test::Fail;
 
-    const ANY: Interval = Interval {
-        lower: 0,
-        strict: false,
-        upper: Upper::Unbounded,
-    };
-
     fn ranked() -> Region {
         Region {
             items: [0, 1, 2, 3, 4, 5, 6, 7, 8].map(|rank| Item { whole: 0, rank }),
@@ -390,9 +387,9 @@ mod tests {
         let mut out = Listing::new(rt.alloc())?;
         Regions.time(scope, ranked(), &mut out);
         assert_eq!(rt; out.shapes().len(), 306);
-        Regions.assign(scope, 0, ANY, ranked(), &mut out);
+        Regions.assign(scope, 0, Interval::ANY, ranked(), &mut out);
         assert_eq!(rt; out.shapes().len(), 306);
-        Regions.push(scope, ANY, ranked(), &mut out);
+        Regions.push(scope, Interval::ANY, ranked(), &mut out);
         assert_eq!(rt; out.shapes().len(), 136);
         Ok(())
     }
@@ -402,8 +399,7 @@ mod tests {
     fn pop(rt: HostRuntime) -> Result<(), Fail> {
         let scope = Scope { clocks: 1, top: 1 };
         let zero = Interval {
-            lower: 0,
-            strict: false,
+            lower: Lower::From(0),
             upper: Upper::Upto(0),
         };
         let later = Item { whole: 0, rank: 1 };

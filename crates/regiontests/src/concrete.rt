@@ -1,7 +1,7 @@
 // Frames of concrete values at a scale, how they change, and which region each is in. Nothing here asks
 // the regions: whole parts and ranks are counted.
 
-use abstraction::{Interval, Scope, Upper};
+use abstraction::{Interval, Lower, Scope, Upper};
 use ranking::{Item, Region};
 use std::array::from_fn;
 
@@ -85,11 +85,9 @@ impl World {
     }
 
     pub(crate) fn lies(self, interval: Interval, value: u16) -> bool {
-        let lower = (interval.lower as u16).wrapping_mul(self.scale);
-        let above = if interval.strict {
-            lower < value
-        } else {
-            lower <= value
+        let above = match interval.lower {
+            Lower::From(b) => (b as u16).wrapping_mul(self.scale) <= value,
+            Lower::Over(b) => (b as u16).wrapping_mul(self.scale) < value,
         };
         above
             && match interval.upper {

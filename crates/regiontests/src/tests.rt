@@ -3,17 +3,11 @@
 // room between any two fractions.
 
 use super::concrete::{Frame, World, assigned, at, later, scaled};
-use abstraction::{Abstraction, Interval, Listing, Upper};
+use abstraction::{Abstraction, Interval, Listing, Lower, Upper};
 use ranking::Region;
 use region::Regions;
 use std::alloc::{AllocError, Global};
 use std::test::Fail;
-
-const ANY: Interval = Interval {
-    lower: 0,
-    strict: false,
-    upper: Upper::Unbounded,
-};
 
 #[derive(Clone, Copy)]
 enum Change {
@@ -123,23 +117,19 @@ impl Question {
     }
 }
 
-fn between(lower: u8, strict: bool, upper: Upper) -> Interval {
-    Interval {
-        lower,
-        strict,
-        upper,
-    }
+fn between(lower: Lower, upper: Upper) -> Interval {
+    Interval { lower, upper }
 }
 
 // Intervals with their bounds in them and not, an empty one, and one without an upper bound.
 fn intervals(top: u8) -> [Interval; 6] {
     [
-        ANY,
-        between(0, false, Upper::Upto(0)),
-        between(0, true, Upper::Upto(top)),
-        between(0, true, Upper::Under(top)),
-        between(top, true, Upper::Unbounded),
-        between(top, false, Upper::Upto(0)),
+        Interval::ANY,
+        between(Lower::From(0), Upper::Upto(0)),
+        between(Lower::Over(0), Upper::Upto(top)),
+        between(Lower::Over(0), Upper::Under(top)),
+        between(Lower::Over(top), Upper::Unbounded),
+        between(Lower::From(top), Upper::Upto(0)),
     ]
 }
 
@@ -170,7 +160,7 @@ fn agree_on_intervals(heap: Global, w: World, change: Change) -> Result<bool, Al
 }
 
 fn agree_on_time(heap: Global, w: World) -> Result<bool, AllocError> {
-    agree_on(heap, w, Change::Time, &[ANY])
+    agree_on(heap, w, Change::Time, &[Interval::ANY])
 }
 
 // A region above, and one that comes of its pop.
@@ -349,18 +339,18 @@ fn push_lists(rt: HostRuntime) -> Result<(), Fail> {
 
 #[test]
 fn pop_lists(rt: HostRuntime) -> Result<(), Fail> {
-    assert!(rt; all_pops_agree(rt.alloc(), world(0, 0, 4), ANY, 1)?);
+    assert!(rt; all_pops_agree(rt.alloc(), world(0, 0, 4), Interval::ANY, 1)?);
     for i in intervals(1) {
         assert!(rt; all_pops_agree(rt.alloc(), world(0, 1, 2), i, 1)?);
     }
-    assert!(rt; all_pops_agree(rt.alloc(), world(0, 2, 2), ANY, 3)?);
+    assert!(rt; all_pops_agree(rt.alloc(), world(0, 2, 2), Interval::ANY, 3)?);
     Ok(())
 }
 
 #[test]
 fn pop_lists_of_one_clock(rt: HostRuntime) -> Result<(), Fail> {
-    assert!(rt; all_pops_agree(rt.alloc(), world(1, 0, 2), ANY, 97)?);
-    assert!(rt; all_pops_agree(rt.alloc(), world(1, 1, 1), ANY, 7)?);
+    assert!(rt; all_pops_agree(rt.alloc(), world(1, 0, 2), Interval::ANY, 97)?);
+    assert!(rt; all_pops_agree(rt.alloc(), world(1, 1, 1), Interval::ANY, 7)?);
     Ok(())
 }
 
@@ -372,7 +362,7 @@ fn longest_lists(rt: HostRuntime) -> Result<(), Fail> {
     let question = |change| Question {
         world: world(3, 15, 10),
         change,
-        interval: ANY,
+        interval: Interval::ANY,
     };
     let frame = [1, 2, 3, 4, 5, 6, 7, 8, 9];
     question(Change::Push).list(&frame, &mut out);
