@@ -32,13 +32,13 @@ use Rattle.case.specs.Laws.{Begins, Limited, Delays, Allows, FiresSo}
 
 pub answered_accepted : (o : Outcome (Unit {0})) (s q : ℕ) → answered o s ≡ accepted q → (o ≡ done) × (s ≡ q)
 answered_accepted (accepted u) s q h = (refl, same_accepted s q h)
-answered_accepted (refused n l p) s q h = absurd (let z : ◌≡◌ {A = ℕ} 0 1 = cc in omega arith)
+answered_accepted (refused n l p) s q h = absurd (cc)
 
 never_accepted : (n q : ℕ) → no n ≡ accepted q → ⊥
-never_accepted n q h = let z : ◌≡◌ {A = ℕ} 0 1 = cc in omega arith
+never_accepted n q h = cc
 
 idle_at : (D : ℕ) (c : Configuration) → idle ≡ at D c → ⊥
-idle_at D c h = let z : ◌≡◌ {A = ℕ} 0 1 = cc in omega arith
+idle_at D c h = cc
 
 same_scale : (D E : ℕ) (b c : Configuration) → at D b ≡ at E c → D ≡ E
 same_scale D E b c h = cc
@@ -118,7 +118,7 @@ delays d w o after ho ha = delays_run d w w.run refl o after ho ha
 -- firing
 
 pop_top : (l : ℕ) (ss : List Symbol) → labelled l (top ss) ≡ true → ss ≡ (record { label = l; age = age_of (top ss) }) ∷ below ss
-pop_top l [] h = absurd (let x : ◌≡◌ {A = ℕ} 0 1 = cc in omega arith)
+pop_top l [] h = absurd (cc)
 pop_top l (s ∷ ss) h = ap (λ k. (record { label = k; age = s.age }) ∷ ss) (eqb-true s.label l h)
 
 does : (D q v : ℕ) (i : Interval) (a : Action) (c : Configuration) → value_fits a v ≡ true → pop_fits a c.stack ≡ true → push_fits a c.stack ≡ true → timed a (inside D i (measured a c.clocks c.stack v)) ≡ true → Does D i a v c.clocks c.stack (fired a q v c).clocks (fired a q v c).stack × Allows a v c
@@ -182,7 +182,7 @@ unchecked D v b c r (w1, w2, w3) l =
     )
 
 pub nth_sits : {X : Type 0} (xs : List X) (k : ℕ) (x : X) → slice_get xs k ≡ Some x → Sits xs k x
-nth_sits [] k x h = absurd (let z : ◌≡◌ {A = ℕ} 0 1 = cc in omega arith)
+nth_sits [] k x h = absurd (cc)
 nth_sits (y ∷ ys) zero x h = let e : y ≡ x = cc in (omega arith, λ d. e)
 nth_sits (y ∷ ys) (suc k) x h = let s = nth_sits ys k x h in (omega (arith, s.0), s.1)
 
@@ -216,7 +216,7 @@ fires_rule : (k v : ℕ) (w : View) (m : Option Rule) → slice_get w.model.rule
 fires_rule k v w None e o after ho ha =
     record {
       holds = λ q h. absurd (never_accepted 8 q (sym ho ∙ h));
-      only = λ D r b c x i f l. absurd (let n = sits_nth w.model.rules k r i in let z : ◌≡◌ {A = ℕ} 0 1 = cc in omega arith);
+      only = λ D r b c x i f l. absurd (let n = sits_nth w.model.rules k r i in cc);
     }
 fires_rule k v w (Some r) e o after ho ha = fires_run k v w r (nth_sits w.model.rules k r e) w.run refl o after ho ha
 

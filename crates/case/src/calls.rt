@@ -48,6 +48,7 @@ impl Case {
         });
     }
 
+    // The five edits stand alone: one that takes a closure asks for each one's clauses again, as long as these.
     // Sets all sizes, start and target, with no rules.
     pub fn open(&mut self, opening: Opening) -> Result<(), Fault>
         ensures answer { outcome result ≡ open_outcome opening }
