@@ -11,7 +11,7 @@ use Rattle.merging.specs.Ways.{alone, rank_on}
 use Rattle.merging.specs.Pop.{shared}
 use Rattle.merging.proofs.Bound.{count, lone}
 use Rattle.merging.proofs.Sound.{alone_each}
-use Rattle.merging.proofs.Picks.{greatest_at}
+use Rattle.ranking.proofs.Turns.{greatest_at}
 use Rattle.merging.proofs.Ties.{ties_of_all}
 
 count_none : (p : ℕ → Bool) (i k : ℕ) → ((l : ℕ) → i ≤ l → l < i + k → p l ≡ false) → count p (range_with_len i k) ≡ 0

@@ -7,7 +7,7 @@ use Rattle.abstraction.specs.Lists.{In}
 use Rattle.abstraction.specs.declared.scope.Scope.{Scope}
 use Rattle.ranking.specs.declared.Item.{Item}
 use Rattle.ranking.specs.declared.Region.{Region}
-use Rattle.ranking.specs.Items.{none, whole_at, rank_at, places, ceiling}
+use Rattle.ranking.specs.Items.{none, whole_at, rank_at, places, ceiling, clocks_of}
 use Rattle.ranking.specs.Ranks.{Gapless}
 use Rattle.ranking.specs.Close.{shut}
 use Rattle.ranking.specs.Rotation.{greatest, turns}
@@ -19,7 +19,6 @@ use Rattle.ranking.proofs.Turns.{every_turn}
 use Rattle.ranking.proofs.Joined.{join_adds, adds_none, adds_like, adds_then, repeat_adds}
 use Rattle.merging.specs.declared.Side.TheVariants.{Left, Right}
 use Rattle.merging.specs.Ways.{when, mergings, rank_on}
-use Rattle.ranking.specs.Items.{clocks_of}
 use Rattle.merging.specs.Pop.{mark_item, marked, shared, agrees, frame_of, finished, upto, no_keys, merged, here, join_all, rounds, tried, below_of, pops}
 use Rattle.merging.specs.Law.{projected, region_of, Joins, with_mark, Popped, PopLaw}
 use Rattle.merging.proofs.Bound.{few_mergings, mono, most, lone}

@@ -1,10 +1,11 @@
-use Rattle.std.proofs.Common.{◌≡◌, ℕ, zero, suc, ◌<◌, ◌≤◌, cond, eqb, List, [], ◌∷◌, length, refl, ap, ⊎_elim, arith}
+use Rattle.std.proofs.Common.{◌≡◌, ℕ, zero, suc, ◌<◌, ◌≤◌, cond, eqb, List, length, refl, ap, ⊎_elim, arith}
 use Rattle.std.proofs.lemmas.Bool.{cases_lt, cases_eq}
 use Rattle.std.proofs.lemmas.Bool.Decides.{nat_tests}
 use Rattle.ranking.specs.declared.Item.{Item}
 use Rattle.ranking.specs.Items.{rank_at}
 use Rattle.ranking.specs.Ranks.{Orders, Zeros, Ranks}
 use Rattle.ranking.specs.Rotation.{greatest}
+use Rattle.ranking.proofs.Turns.{greatest_at}
 
 -- the key of the items of rank r
 abbrev pub pick : ℕ → (ℕ → ℕ) → (ℕ → ℕ) → ℕ → ℕ
@@ -48,14 +49,6 @@ pick_up m ρ κ r g gm p q lt le =
     let o = r.orders b.0 a.0 b.1 a.1 in
     let a2 = a.2 in let b2 = b.2 in grind arith)
     (cases_lt p 1)
-
-pub greatest_at : (xs : List Item) → 1 ≤ greatest xs → (i : ℕ) × (i < length xs) × (rank_at xs i ≡ greatest xs)
-greatest_at [] h = absurd (omega arith)
-greatest_at (x ∷ xs) h =
-    ⊎_elim
-    (λ (l : x.rank < greatest xs). let t = greatest_at xs (omega arith) in (suc t.0, omega arith, omega (arith, t.2)))
-    (λ (g : greatest xs ≤ x.rank). (0, omega arith, omega arith))
-    (cases_lt x.rank (greatest xs))
 
 pub pick_rises : (m : ℕ) (xs : List Item) (κ : ℕ → ℕ) → length xs ≡ m → Ranks m (rank_at xs) κ → (p q : ℕ) → p < q → q ≤ greatest xs → pick m (rank_at xs) κ p < pick m (rank_at xs) κ q
 pick_rises m xs κ long r p q lt le = let g = greatest_at xs (omega arith) in pick_up m (rank_at xs) κ r g.0 (omega (arith, g.1)) p q lt (omega (arith, g.2))

@@ -10,7 +10,7 @@ use Rattle.ranking.proofs.Steps.{ranks_same, risen, dropped}
 use Rattle.ranking.proofs.Close.{own_ranks, rank_few}
 use Rattle.ranking.proofs.Lists.{zero_at, no_zero, rank_le, length_rotated, at_up, at_over}
 use Rattle.merging.specs.Law.{with_mark}
-use Rattle.merging.proofs.Picks.{greatest_at}
+use Rattle.ranking.proofs.Turns.{greatest_at}
 
 -- items with whole parts up to one above their ceilings, and ranks without a gap
 pub record Good (m : ℕ) (c : ℕ → ℕ) (xs : List Item) : Type 0 where

@@ -7,7 +7,7 @@ ghost use Rattle.std.specs.List.{list_all};
 ghost use Rattle.abstraction.specs.Room.{shapes as shapes_of};
 ghost use Rattle.ranking.specs.Items.{none, with_items, clocks_of, each, places};
 ghost use Rattle.merging.specs.Ways.{rank_on, alone, together, keys_on, on, mergings};
-ghost use Rattle.merging.specs.Pop.{mark_item, marked as marked_of, ties_of, like as likeness, in_order, agrees, part as part_of, frame_of, join_all, finished, rekeyed, with_keys, merged, here, rounds as rounds_of, tried, pops as popping};
+ghost use Rattle.merging.specs.Pop.{mark_item, marked as marked_of, ties_of, shared, like as likeness, in_order, agrees, part as part_of, frame_of, join_all, finished, rekeyed, with_keys, merged, here, rounds as rounds_of, tried, pops as popping};
 ghost use Rattle.merging.specs.Law.{PopLaw};
 
 use abstraction::{Listing, Scope};
@@ -219,16 +219,6 @@ fn at(items: &[Item], i: usize) -> Item
     items.get(i).copied().unwrap_or(Item::NONE)
 }
 
-// The items that both frames have; there are at most five.
-fn tie_all(below: &[Item], above: &[Item]) -> [Tie; 5]
-    ensures { result ≡ ties_of below.now above.now }
-{
-    array::from_fn(|i| Tie {
-        left: at(below, i),
-        right: at(above, i),
-    })
-}
-
 // The item at a place of the frame below with a mark, of no whole part and no fraction, after its age.
 fn mark_at(items: &[Item], clocks: usize, i: usize) -> Item
     requires { clocks ≤ 3 }
@@ -264,39 +254,71 @@ fn part(below: &[Item], above: &[Item], clocks: usize, i: usize) -> Item
     }
 }
 
-fn frame(below: &[Item], above: &[Item], clocks: usize) -> Region
-    ensures { result ≡ frame_of clocks below.now above.now }
+fn tie_all(below: &[Item], above: &[Item]) -> [Tie; 5]
+    ensures { result ≡ ties_of below.now above.now }
 {
-    Region {
-        items: array::from_fn(|i| part(below, above, clocks, i)),
+    array::from_fn(|i| Tie {
+        left: at(below, i),
+        right: at(above, i),
+    })
+}
+
+// The items in use of two frames; those below have a mark after the age.
+#[derive(Drop)]
+struct Frames<'a> {
+    scope: Scope,
+    below: &'a [Item],
+    above: &'a [Item],
+    ghost long_below: { length below.now ≡ places scope + 1 },
+    ghost long_above: { length above.now ≡ places scope },
+}
+
+impl Frames<'_> {
+    // The items that both frames have; there are at most five.
+    fn ties(&self) -> [Tie; 5]
+        ensures { result ≡ shared (clocks_of self.now.scope) self.now.below.now self.now.above.now }
+    {
+        let clocks = clocks_in_use(self.scope);
+        tie_all(&self.below[..clocks + 2], &self.above[clocks + 1..])
     }
-}
 
-// Lists every merging of the frames, which agree.
-fn merge_all(scope: Scope, ties: &[Tie], below: &[Item], above: &[Item], out: &mut Listing<Region>)
-    ensures { shapes_of out.new ≡ join_all (shapes_of out.old) (merged scope ties.now below.now above.now) }
-{
-    let ranks = [1, 2, 3, 4, 5, 6, 7, 8, 9, 10];
-    let left = top_rank(below).min(10) as usize;
-    let right = top_rank(above).min(10) as usize;
-    let frame = frame(below, above, clocks_in_use(scope));
-    let keys = Keys {
-        left: [0; 11],
-        right: [0; 11],
-    };
-    let draft = Draft { scope, frame, keys };
-    merge(ties, &ranks[0..left], &ranks[0..right], 0, draft, out);
-}
+    // The frame after the pop, each item with its rank on its own side.
+    fn left_over(&self) -> Region
+        ensures { result ≡ frame_of (clocks_of self.now.scope) self.now.below.now self.now.above.now }
+    {
+        let clocks = clocks_in_use(self.scope);
+        Region {
+            items: array::from_fn(|i| part(self.below, self.above, clocks, i)),
+        }
+    }
 
-// Lists the mergings of the frames, if they agree.
-fn list_here(scope: Scope, below: &[Item], above: &[Item], out: &mut Listing<Region>)
-    requires { (length below.now ≡ places scope + 1) × (length above.now ≡ places scope) }
-    ensures { shapes_of out.new ≡ join_all (shapes_of out.old) (here scope below.now above.now) }
-{
-    let clocks = clocks_in_use(scope);
-    let ties = tie_all(&below[0..clocks + 2], &above[clocks + 1..2 * clocks + 3]);
-    if agree(&ties) {
-        merge_all(scope, &ties, below, above, out);
+    // Lists every merging of the frames, which agree.
+    fn list_merged(&self, ties: &[Tie], out: &mut Listing<Region>)
+        ensures { shapes_of out.new ≡ join_all (shapes_of out.old) (merged self.now.scope ties.now self.now.below.now self.now.above.now) }
+    {
+        let ranks = [1, 2, 3, 4, 5, 6, 7, 8, 9, 10];
+        let left = top_rank(self.below).min(10) as usize;
+        let right = top_rank(self.above).min(10) as usize;
+        let keys = Keys {
+            left: [0; 11],
+            right: [0; 11],
+        };
+        let draft = Draft {
+            scope: self.scope,
+            frame: self.left_over(),
+            keys,
+        };
+        merge(ties, &ranks[0..left], &ranks[0..right], 0, draft, out);
+    }
+
+    // Lists the mergings of the frames, if they agree.
+    fn list(&self, out: &mut Listing<Region>)
+        ensures { shapes_of out.new ≡ join_all (shapes_of out.old) (here self.now.scope self.now.below.now self.now.above.now) }
+    {
+        let ties = self.ties();
+        if agree(&ties) {
+            self.list_merged(&ties, out);
+        }
     }
 }
 
@@ -312,7 +334,12 @@ fn try_rotations(
     ensures { shapes_of out.new ≡ tried rounds scope below.old above.now (shapes_of out.old) }
 {
     for _ in 0..rounds {
-        list_here(scope, below, above, out);
+        let frames = Frames {
+            scope,
+            below: &*below,
+            above,
+        };
+        frames.list(out);
         rotate(below, scope);
     }
 }
