@@ -4,7 +4,8 @@ use Rattle.std.proofs.lemmas.Bool.Decides.{nat_tests}
 use Rattle.merging.specs.declared.Tie.{Tie}
 use Rattle.merging.specs.declared.Keys.{Keys}
 use Rattle.merging.specs.Grid.{grid}
-use Rattle.merging.specs.Ways.{alone, together, from_left, from_right, on_left, on_right, when, rights, steps, mergings}
+use Rattle.merging.specs.declared.Side.TheVariants.{Left, Right}
+use Rattle.merging.specs.Ways.{alone, together, rank_on, on, when, rights, steps, mergings}
 
 pub most : grid 5 4 ≡ 681
 most = refl
@@ -48,24 +49,24 @@ length_when true xs = refl
 length_when false xs = refl
 
 -- a rank that is alone does not meet one that is not
-apart_left : (l r : ℕ) (ts : List Tie) → alone from_left l ts ≡ true → alone from_right r ts ≡ false → together l r ts ≡ false
+apart_left : (l r : ℕ) (ts : List Tie) → alone (rank_on Left) l ts ≡ true → alone (rank_on Right) r ts ≡ false → together l r ts ≡ false
 apart_left l r [] a b = absurd (false≢true (sym b))
 apart_left l r (t ∷ ts) a b =
     let rest = apart_left l r ts (and_parts (not (eqb t.left.rank l)) _ a).1 in
     grind (arith, nat_tests)
 
-apart_right : (l r : ℕ) (ts : List Tie) → alone from_left l ts ≡ false → alone from_right r ts ≡ true → together l r ts ≡ false
+apart_right : (l r : ℕ) (ts : List Tie) → alone (rank_on Left) l ts ≡ false → alone (rank_on Right) r ts ≡ true → together l r ts ≡ false
 apart_right l r [] a b = absurd (false≢true (sym a))
 apart_right l r (t ∷ ts) a b =
-    let rest : alone from_left l ts ≡ false → together l r ts ≡ false = λ z. apart_right l r ts z (and_parts (not (eqb t.right.rank r)) _ b).1 in
+    let rest : alone (rank_on Left) l ts ≡ false → together l r ts ≡ false = λ z. apart_right l r ts z (and_parts (not (eqb t.right.rank r)) _ b).1 in
     grind (arith, nat_tests)
 
 few_rights : (ts : List Tie) (rs : List ℕ) (p : ℕ) (k : Keys) → length (rights ts rs p k) ≤ 1
 few_rights ts [] p k = omega arith
 few_rights ts (r ∷ rs) p k =
-    let h = few_rights ts rs (p + 1) (on_right r (p + 1) k) in
-    let e = length_when (alone from_right r ts) (rights ts rs (p + 1) (on_right r (p + 1) k)) in
-    ⊎_elim (λ t. grind arith) (λ t. grind arith) (cases_Bool (alone from_right r ts))
+    let h = few_rights ts rs (p + 1) (on Right r (p + 1) k) in
+    let e = length_when (alone (rank_on Right) r ts) (rights ts rs (p + 1) (on Right r (p + 1) k)) in
+    ⊎_elim (λ t. grind arith) (λ t. grind arith) (cases_Bool (alone (rank_on Right) r ts))
 
 sum_few : (x y z : Bool) (a b c : ℕ) (s t u : ℕ) → (x ≡ true → a ≤ s) → (y ≡ true → b ≤ t) → (z ≡ true → c ≤ u) → cond x a 0 + (cond y b 0 + cond z c 0) ≤ cond x s 0 + (cond y t 0 + cond z u 0)
 sum_few true true true a b c s t u p q r = omega (arith, p refl, q refl, r refl)
@@ -89,25 +90,25 @@ joint false true false a b p q = omega (arith, mono_b a b)
 joint false false true a b p q = omega arith
 joint false false false a b p q = omega arith
 
-few_steps : (ts : List Tie) (l a : ℕ) (go : List ℕ → ℕ → Keys → List Keys) → ((rs : List ℕ) (p : ℕ) (k : Keys) → length (go rs p k) ≤ grid a (lone from_right ts rs))
-    → (rs : List ℕ) (p : ℕ) (k : Keys) → length (steps ts l go rs p k) ≤ grid (cond (alone from_left l ts) (suc a) a) (lone from_right ts rs)
+few_steps : (ts : List Tie) (l a : ℕ) (go : List ℕ → ℕ → Keys → List Keys) → ((rs : List ℕ) (p : ℕ) (k : Keys) → length (go rs p k) ≤ grid a (lone (rank_on Right) ts rs))
+    → (rs : List ℕ) (p : ℕ) (k : Keys) → length (steps ts l go rs p k) ≤ grid (cond (alone (rank_on Left) l ts) (suc a) a) (lone (rank_on Right) ts rs)
 few_steps ts l a go h [] p k =
-    let e = length_when (alone from_left l ts) (go [] (p + 1) (on_left l (p + 1) k)) in
-    let g = h [] (p + 1) (on_left l (p + 1) k) in
+    let e = length_when (alone (rank_on Left) l ts) (go [] (p + 1) (on Left l (p + 1) k)) in
+    let g = h [] (p + 1) (on Left l (p + 1) k) in
     let m = mono_a a 0 in
-    ⊎_elim (λ t. grind arith) (λ t. grind arith) (cases_Bool (alone from_left l ts))
+    ⊎_elim (λ t. grind arith) (λ t. grind arith) (cases_Bool (alone (rank_on Left) l ts))
 few_steps ts l a go h (r ∷ rs) p k =
-    let A = go (r ∷ rs) (p + 1) (on_left l (p + 1) k) in
-    let B = steps ts l go rs (p + 1) (on_right r (p + 1) k) in
-    let C = go rs (p + 1) (on_right r (p + 1) (on_left l (p + 1) k)) in
-    let n = sum_few (alone from_left l ts) (alone from_right r ts) (together l r ts) (length A) (length B) (length C) _ _ _
-    (λ _. h (r ∷ rs) (p + 1) (on_left l (p + 1) k)) (λ _. few_steps ts l a go h rs (p + 1) (on_right r (p + 1) k)) (λ _. h rs (p + 1) (on_right r (p + 1) (on_left l (p + 1) k))) in
-    let j = joint (alone from_left l ts) (alone from_right r ts) (together l r ts) a (lone from_right ts rs) (apart_left l r ts) (apart_right l r ts) in
-    let e1 = length-append (when (alone from_left l ts) A) (when (alone from_right r ts) B ++ when (together l r ts) C) in
-    let e2 = length-append (when (alone from_right r ts) B) (when (together l r ts) C) in
-    omega (arith, n, j, e1, e2, length_when (alone from_left l ts) A, length_when (alone from_right r ts) B, length_when (together l r ts) C)
+    let A = go (r ∷ rs) (p + 1) (on Left l (p + 1) k) in
+    let B = steps ts l go rs (p + 1) (on Right r (p + 1) k) in
+    let C = go rs (p + 1) (on Right r (p + 1) (on Left l (p + 1) k)) in
+    let n = sum_few (alone (rank_on Left) l ts) (alone (rank_on Right) r ts) (together l r ts) (length A) (length B) (length C) _ _ _
+    (λ _. h (r ∷ rs) (p + 1) (on Left l (p + 1) k)) (λ _. few_steps ts l a go h rs (p + 1) (on Right r (p + 1) k)) (λ _. h rs (p + 1) (on Right r (p + 1) (on Left l (p + 1) k))) in
+    let j = joint (alone (rank_on Left) l ts) (alone (rank_on Right) r ts) (together l r ts) a (lone (rank_on Right) ts rs) (apart_left l r ts) (apart_right l r ts) in
+    let e1 = length-append (when (alone (rank_on Left) l ts) A) (when (alone (rank_on Right) r ts) B ++ when (together l r ts) C) in
+    let e2 = length-append (when (alone (rank_on Right) r ts) B) (when (together l r ts) C) in
+    omega (arith, n, j, e1, e2, length_when (alone (rank_on Left) l ts) A, length_when (alone (rank_on Right) r ts) B, length_when (together l r ts) C)
 
 -- no more mergings than ways through the ranks that are alone
-pub few_mergings : (ts : List Tie) (ls rs : List ℕ) (p : ℕ) (k : Keys) → length (mergings ts ls rs p k) ≤ grid (lone from_left ts ls) (lone from_right ts rs)
+pub few_mergings : (ts : List Tie) (ls rs : List ℕ) (p : ℕ) (k : Keys) → length (mergings ts ls rs p k) ≤ grid (lone (rank_on Left) ts ls) (lone (rank_on Right) ts rs)
 few_mergings ts [] rs p k = few_rights ts rs p k
-few_mergings ts (l ∷ ls) rs p k = few_steps ts l (lone from_left ts ls) (mergings ts ls) (few_mergings ts ls) rs p k
+few_mergings ts (l ∷ ls) rs p k = few_steps ts l (lone (rank_on Left) ts ls) (mergings ts ls) (few_mergings ts ls) rs p k

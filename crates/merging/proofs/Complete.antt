@@ -4,7 +4,8 @@ use Rattle.std.proofs.lemmas.Bool.{cases_lt, cases_eq, cases_order, eq-eqb, ne_e
 use Rattle.std.proofs.lemmas.Bool.Decides.{nat_tests}
 use Rattle.merging.specs.declared.Tie.{Tie}
 use Rattle.merging.specs.declared.Keys.{Keys}
-use Rattle.merging.specs.Ways.{alone, together, same_test, from_left, from_right, on_left, on_right}
+use Rattle.merging.specs.declared.Side.TheVariants.{Left, Right}
+use Rattle.merging.specs.Ways.{alone, together, same_test, rank_on, on}
 use Rattle.merging.proofs.Ways.{Way, done, goes_left, goes_right, goes_both, written}
 use Rattle.merging.proofs.Sound.{left_at, right_at, set_at, Sofar, step_left, step_right, step_both}
 
@@ -21,12 +22,12 @@ module _ (f g : ℕ → ℕ) (K L : ℕ) (smallK : K < 11) (smallL : L < 11) (ts
   abbrev pub FitsTie : Tie → Type 0
   FitsTie t = (f t.left.rank ≡ g t.right.rank) × (t.left.rank ≤ K) × (t.right.rank ≤ L)
 
-  free_left : (l : ℕ) (us : List Tie) → AllByRecursion FitsTie us → ((q : ℕ) → q ≤ L → f l ≡ g q → ⊥) → alone from_left l us ≡ true
+  free_left : (l : ℕ) (us : List Tie) → AllByRecursion FitsTie us → ((q : ℕ) → q ≤ L → f l ≡ g q → ⊥) → alone (rank_on Left) l us ≡ true
   free_left l [] a n = refl
   free_left l (t ∷ us) a n = let r = free_left l us a.1 n in let m = n t.right.rank a.0.2 in let e0 = a.0.0 in
       ⊎_elim (λ (e : t.left.rank ≡ l). absurd (m (sym (ap f e) ∙ e0))) (λ (d : t.left.rank ≡ l → ⊥). grind (arith, nat_tests)) (cases_eq t.left.rank l)
 
-  free_right : (r : ℕ) (us : List Tie) → AllByRecursion FitsTie us → ((q : ℕ) → q ≤ K → g r ≡ f q → ⊥) → alone from_right r us ≡ true
+  free_right : (r : ℕ) (us : List Tie) → AllByRecursion FitsTie us → ((q : ℕ) → q ≤ K → g r ≡ f q → ⊥) → alone (rank_on Right) r us ≡ true
   free_right r [] a n = refl
   free_right r (t ∷ us) a n = let s = free_right r us a.1 n in let m = n t.left.rank a.0.1 in let e0 = a.0.0 in
       ⊎_elim (λ (e : t.right.rank ≡ r). absurd (m (sym (ap g e) ∙ sym e0))) (λ (d : t.right.rank ≡ r → ⊥). grind (arith, nat_tests)) (cases_eq t.right.rank r)
@@ -50,7 +51,7 @@ module _ (f g : ℕ → ℕ) (K L : ℕ) (smallK : K < 11) (smallL : L < 11) (ts
   Cross i j k = (p q : ℕ) → p ≤ i → q ≤ j
       → (left_at k p ≤ right_at k q → f p ≤ g q) × (f p ≤ g q → left_at k p ≤ right_at k q) × (right_at k q ≤ left_at k p → g q ≤ f p) × (g q ≤ f p → right_at k q ≤ left_at k p)
 
-  cross_left : (i j p : ℕ) (k : Keys) → i + 1 < 11 → Sofar ts i j p k → Cross i j k → ((q : ℕ) → q ≤ j → g q < f (i + 1)) → Cross (i + 1) j (on_left (i + 1) (p + 1) k)
+  cross_left : (i j p : ℕ) (k : Keys) → i + 1 < 11 → Sofar ts i j p k → Cross i j k → ((q : ℕ) → q ≤ j → g q < f (i + 1)) → Cross (i + 1) j (on Left (i + 1) (p + 1) k)
   cross_left i j p k small s c front a b la lb =
       let e = set_at k.left (i + 1) (p + 1) a (omega (arith, s.left_long)) in
       ⊎_elim
@@ -64,7 +65,7 @@ module _ (f g : ℕ → ℕ) (K L : ℕ) (smallK : K < 11) (smallL : L < 11) (ts
       rw old (c a b le lb))
       (cases_eq a (i + 1))
 
-  cross_right : (i j p : ℕ) (k : Keys) → j + 1 < 11 → Sofar ts i j p k → Cross i j k → ((q : ℕ) → q ≤ i → f q < g (j + 1)) → Cross i (j + 1) (on_right (j + 1) (p + 1) k)
+  cross_right : (i j p : ℕ) (k : Keys) → j + 1 < 11 → Sofar ts i j p k → Cross i j k → ((q : ℕ) → q ≤ i → f q < g (j + 1)) → Cross i (j + 1) (on Right (j + 1) (p + 1) k)
   cross_right i j p k small s c front a b la lb =
       let e = set_at k.right (j + 1) (p + 1) b (omega (arith, s.right_long)) in
       ⊎_elim
@@ -79,7 +80,7 @@ module _ (f g : ℕ → ℕ) (K L : ℕ) (smallK : K < 11) (smallL : L < 11) (ts
       (cases_eq b (j + 1))
 
   cross_both : (i j p : ℕ) (k : Keys) → i + 1 < 11 → j + 1 < 11 → Sofar ts i j p k → Cross i j k → f (i + 1) ≡ g (j + 1) → ((q : ℕ) → q ≤ j → g q < f (i + 1)) → ((q : ℕ) → q ≤ i → f q < g (j + 1))
-      → Cross (i + 1) (j + 1) (on_right (j + 1) (p + 1) (on_left (i + 1) (p + 1) k))
+      → Cross (i + 1) (j + 1) (on Right (j + 1) (p + 1) (on Left (i + 1) (p + 1) k))
   cross_both i j p k si sj s c same front front' a b la lb =
       let e = set_at k.left (i + 1) (p + 1) a (omega (arith, s.left_long)) in
       let e' = set_at k.right (j + 1) (p + 1) b (omega (arith, s.right_long)) in

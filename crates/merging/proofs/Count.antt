@@ -6,7 +6,8 @@ use Rattle.ranking.specs.declared.Item.{Item}
 use Rattle.ranking.specs.Items.{rank_at}
 use Rattle.ranking.specs.Ranks.{Gapless}
 use Rattle.ranking.specs.Rotation.{greatest}
-use Rattle.merging.specs.Ways.{alone, from_left, from_right}
+use Rattle.merging.specs.declared.Side.TheVariants.{Left, Right}
+use Rattle.merging.specs.Ways.{alone, rank_on}
 use Rattle.merging.specs.Pop.{shared}
 use Rattle.merging.proofs.Bound.{count, lone}
 use Rattle.merging.proofs.Sound.{alone_each}
@@ -42,21 +43,21 @@ count_few (suc m) κ p i k h =
 module _ (n : ℕ) (few : n ≤ 3) (xs us : List Item) (lx : length xs ≡ 2 * n + 4) (lu : length us ≡ 2 * n + 3)
     (gx : Gapless (2 * n + 4) (rank_at xs)) (gu : Gapless (2 * n + 3) (rank_at us)) where
   -- a rank that is alone is that of an item of one side only
-  pub lone_left : lone from_left (shared n xs us) (range_with_len 1 (greatest xs)) ≤ n + 2
-  lone_left = count_few (n + 2) (λ j. rank_at xs (n + 2 + j)) (λ r. alone from_left r (shared n xs us)) 1 (greatest xs) (λ l a b t.
+  pub lone_left : lone (rank_on Left) (shared n xs us) (range_with_len 1 (greatest xs)) ≤ n + 2
+  lone_left = count_few (n + 2) (λ j. rank_at xs (n + 2 + j)) (λ r. alone (rank_on Left) r (shared n xs us)) 1 (greatest xs) (λ l a b t.
       let g = greatest_at xs (omega arith) in
       let j = gx g.0 l (omega (arith, g.1)) a (omega (arith, g.2)) in
-      let free = alone_each from_left l (shared n xs us) t in
+      let free = alone_each (rank_on Left) l (shared n xs us) t in
       ⊎_elim
       (λ (h : j.0 < n + 2). absurd (ties_of_all n xs us lx lu few (λ t. t.left.rank ≡ l → ⊥) free j.0 h j.2))
       (λ (h : n + 2 ≤ j.0). let e : n + 2 + (j.0 - (n + 2)) ≡ j.0 = omega arith in (j.0 - (n + 2), omega (arith, j.1), ap (rank_at xs) e ∙ j.2))
       (cases_lt j.0 (n + 2)))
 
-  pub lone_right : lone from_right (shared n xs us) (range_with_len 1 (greatest us)) ≤ n + 1
-  lone_right = count_few (n + 1) (rank_at us) (λ r. alone from_right r (shared n xs us)) 1 (greatest us) (λ l a b t.
+  pub lone_right : lone (rank_on Right) (shared n xs us) (range_with_len 1 (greatest us)) ≤ n + 1
+  lone_right = count_few (n + 1) (rank_at us) (λ r. alone (rank_on Right) r (shared n xs us)) 1 (greatest us) (λ l a b t.
       let g = greatest_at us (omega arith) in
       let j = gu g.0 l (omega (arith, g.1)) a (omega (arith, g.2)) in
-      let free = alone_each from_right l (shared n xs us) t in
+      let free = alone_each (rank_on Right) l (shared n xs us) t in
       ⊎_elim
       (λ (h : j.0 < n + 1). (j.0, h, j.2))
       (λ (h : n + 1 ≤ j.0). let e : n + 1 + (j.0 - (n + 1)) ≡ j.0 = omega arith in

@@ -7,7 +7,8 @@ use Rattle.ranking.specs.declared.Region.{Region}
 use Rattle.ranking.specs.Items.{each, places, ceiling}
 use Rattle.ranking.specs.Rotation.{rotated, turns}
 use Rattle.merging.specs.declared.Tie.{Tie}
-use Rattle.merging.specs.Pop.{clocks_of, ties_of, shared, agrees, merged, here, join_all, tried}
+use Rattle.ranking.specs.Items.{clocks_of}
+use Rattle.merging.specs.Pop.{ties_of, shared, agrees, merged, here, join_all, tried}
 use Rattle.ranking.proofs.Each.{each_over_more, length_each}
 
 -- a loop that writes g i at each place i

@@ -1,9 +1,8 @@
 use Rattle.std.proofs.Common.{◌≡◌, ℕ, ◌+◌, ◌-◌, ◌*◌, ◌<◌, ◌≤◌, Bool, true, false, cond, ◌&&◌, List, ◌++◌, map, length, get_or, take, drop, sym, refl, ap, ◌∙◌, subst, ⊎_elim, arith, length-append}
-use Rattle.std.specs.List.{range_with_len, ContainsAt as Has, AllByRecursion}
+use Rattle.std.specs.List.{list_all, range_with_len, ContainsAt as Has, AllByRecursion}
 use Rattle.std.proofs.lemmas.List.{get_or-take, get_or-drop, get_or_append_left, get_or-append_right, get_or-map, length-map, length-take, length-drop}
 use Rattle.std.proofs.ByRecursion.{all-has, All-weaker}
 use Rattle.std.proofs.lemmas.Bool.{cases_lt, and_from}
-use Rattle.abstraction.specs.Lists.{all}
 use Rattle.ranking.specs.declared.Item.{Item}
 use Rattle.ranking.specs.Items.{none, with_items, whole_at, rank_at}
 use Rattle.ranking.specs.Ranks.{Gapless, Ranks}
@@ -232,7 +231,7 @@ module _ (n : ℕ) (few : n ≤ 3) (xs us : List Item) (lx : length xs ≡ 2 * n
     TBlank i li = let z = TZeros i li in in_order_from (T i) blank_tie (λ e. omega (arith, z.0 (omega arith))) (λ e. omega (arith, z.1 (omega arith)))
 
     pub agree : agrees ts ≡ true
-    agree = all_from (λ t. like t && all (in_order t) ts) ts (ties_by n xs us lx lu (λ t. (like t && all (in_order t) ts) ≡ true)
+    agree = all_from (λ t. like t && list_all (in_order t) ts) ts (ties_by n xs us lx lu (λ t. (like t && list_all (in_order t) ts) ≡ true)
         (λ i li. and_from (like (T i)) _ (TLike i li) (all_from (in_order (T i)) ts (ties_by n xs us lx lu (λ v. in_order (T i) v ≡ true) (λ j lj. TOrder i j li lj) (TBlank i li))))
         (and_from (like blank_tie) _ refl (all_from (in_order blank_tie) ts (ties_by n xs us lx lu (λ v. in_order blank_tie v ≡ true) (λ j lj. in_order_from blank_tie (T j) (λ e. omega arith) (λ e. omega arith)) refl))))
 

@@ -4,7 +4,8 @@ use Rattle.ranking.specs.declared.Region.{Region}
 use Rattle.ranking.specs.Joined.{join}
 use Rattle.merging.specs.declared.Tie.{Tie}
 use Rattle.merging.specs.declared.Keys.{Keys}
-use Rattle.merging.specs.Ways.{alone, together, from_left, from_right, on_left, on_right, when, mergings}
+use Rattle.merging.specs.declared.Side.TheVariants.{Left, Right}
+use Rattle.merging.specs.Ways.{alone, together, rank_on, on, when, mergings}
 use Rattle.merging.specs.declared.Draft.{Draft}
 use Rattle.merging.specs.Pop.{join_all, finished, with_keys}
 
@@ -27,10 +28,10 @@ module _ (f : Keys → Region) where
     pub at_end : (L R : List ℕ) (a z : List Region) → length L ≡ 0 → length R ≡ 0 → z ≡ join a (f k) → z ≡ join_all a (map f (mergings ts L R p k))
     at_end L R a z le re h = rw (nil_from_length L le, nil_from_length R re) h
 
-    pub only_left : (L R : List ℕ) (l : ℕ) (ls : List ℕ) (a z : List Region) → L ≡ l ∷ ls → length R ≡ 0 → Went (alone from_left l ts) (mergings ts ls R (p + 1) (on_left l (p + 1) k)) a z → z ≡ join_all a (map f (mergings ts L R p k))
+    pub only_left : (L R : List ℕ) (l : ℕ) (ls : List ℕ) (a z : List Region) → L ≡ l ∷ ls → length R ≡ 0 → Went (alone (rank_on Left) l ts) (mergings ts ls R (p + 1) (on Left l (p + 1) k)) a z → z ≡ join_all a (map f (mergings ts L R p k))
     only_left L R l ls a z le re h = let e = nil_from_length R re in rw (le, e) (rw e at h)
 
-    pub only_right : (L R : List ℕ) (r : ℕ) (rs : List ℕ) (a z : List Region) → length L ≡ 0 → R ≡ r ∷ rs → Went (alone from_right r ts) (mergings ts L rs (p + 1) (on_right r (p + 1) k)) a z → z ≡ join_all a (map f (mergings ts L R p k))
+    pub only_right : (L R : List ℕ) (r : ℕ) (rs : List ℕ) (a z : List Region) → length L ≡ 0 → R ≡ r ∷ rs → Went (alone (rank_on Right) r ts) (mergings ts L rs (p + 1) (on Right r (p + 1) k)) a z → z ≡ join_all a (map f (mergings ts L R p k))
     only_right L R r rs a z le re h = let e = nil_from_length L le in rw (e, re) (rw e at h)
 
     three : (xs ys zs : List Keys) (a b c d : List Region) → b ≡ join_all a (map f xs) → c ≡ join_all b (map f ys) → d ≡ join_all c (map f zs) → d ≡ join_all a (map f (xs ++ (ys ++ zs)))
@@ -39,14 +40,14 @@ module _ (f : Keys → Region) where
         ∙ sym (join_append a (map f xs) (map f ys ++ map f zs)) ∙ ap (λ e. join_all a (map f xs ++ e)) (sym (map-append f ys zs)) ∙ ap (join_all a) (sym (map-append f xs (ys ++ zs)))
 
     pub all_three : (L R : List ℕ) (l r : ℕ) (ls rs : List ℕ) (a b c d : List Region) → L ≡ l ∷ ls → R ≡ r ∷ rs
-        → Went (alone from_left l ts) (mergings ts ls R (p + 1) (on_left l (p + 1) k)) a b
-        → Went (alone from_right r ts) (mergings ts L rs (p + 1) (on_right r (p + 1) k)) b c
-        → Went (together l r ts) (mergings ts ls rs (p + 1) (on_right r (p + 1) (on_left l (p + 1) k))) c d
+        → Went (alone (rank_on Left) l ts) (mergings ts ls R (p + 1) (on Left l (p + 1) k)) a b
+        → Went (alone (rank_on Right) r ts) (mergings ts L rs (p + 1) (on Right r (p + 1) k)) b c
+        → Went (together l r ts) (mergings ts ls rs (p + 1) (on Right r (p + 1) (on Left l (p + 1) k))) c d
         → d ≡ join_all a (map f (mergings ts L R p k))
     all_three L R l r ls rs a b c d le re x y z =
-        rw (le, re) (three (when (alone from_left l ts) (mergings ts ls (r ∷ rs) (p + 1) (on_left l (p + 1) k)))
-        (when (alone from_right r ts) (mergings ts (l ∷ ls) rs (p + 1) (on_right r (p + 1) k)))
-        (when (together l r ts) (mergings ts ls rs (p + 1) (on_right r (p + 1) (on_left l (p + 1) k)))) a b c d (rw re at x) (rw le at y) z)
+        rw (le, re) (three (when (alone (rank_on Left) l ts) (mergings ts ls (r ∷ rs) (p + 1) (on Left l (p + 1) k)))
+        (when (alone (rank_on Right) r ts) (mergings ts (l ∷ ls) rs (p + 1) (on Right r (p + 1) k)))
+        (when (together l r ts) (mergings ts ls rs (p + 1) (on Right r (p + 1) (on Left l (p + 1) k)))) a b c d (rw re at x) (rw le at y) z)
 
 -- the same, of a draft
 module _ (ts : List Tie) (d : Draft) where
@@ -57,10 +58,10 @@ module _ (ts : List Tie) (d : Draft) where
       → z ≡ join_all a (map (finished e.scope e.frame) (mergings ts ls rs p e.keys)) → Wrote b ls rs p k a z
   writes t b ls rs p k e a z same go is h = goes (finished d.scope d.frame) t b (mergings ts ls rs p k) a z same go (rw is at h)
 
-  pub writes_both : (t b : Bool) (ls rs : List ℕ) (l r p : ℕ) (e g : Draft) (a z : List Region) → t ≡ b → t ≡ true → e ≡ with_keys d (on_left l p d.keys) → g ≡ with_keys e (on_right r p e.keys)
-      → z ≡ join_all a (map (finished g.scope g.frame) (mergings ts ls rs p g.keys)) → Wrote b ls rs p (on_right r p (on_left l p d.keys)) a z
+  pub writes_both : (t b : Bool) (ls rs : List ℕ) (l r p : ℕ) (e g : Draft) (a z : List Region) → t ≡ b → t ≡ true → e ≡ with_keys d (on Left l p d.keys) → g ≡ with_keys e (on Right r p e.keys)
+      → z ≡ join_all a (map (finished g.scope g.frame) (mergings ts ls rs p g.keys)) → Wrote b ls rs p (on Right r p (on Left l p d.keys)) a z
   writes_both t b ls rs l r p e g a z same go is then h =
-      writes t b ls rs p (on_right r p (on_left l p d.keys)) g a z same go (then ∙ ap (λ x. with_keys x (on_right r p x.keys)) is) h
+      writes t b ls rs p (on Right r p (on Left l p d.keys)) g a z same go (then ∙ ap (λ x. with_keys x (on Right r p x.keys)) is) h
 
   pub passes : (t b : Bool) (ls rs : List ℕ) (p : ℕ) (k : Keys) (a : List Region) → t ≡ b → t ≡ false → Wrote b ls rs p k a a
   passes t b ls rs p k a same off = stays (finished d.scope d.frame) t b (mergings ts ls rs p k) a same off

@@ -17,8 +17,10 @@ use Rattle.ranking.proofs.Close.{shut_ranks, shut_whole, length_shut, rank_few}
 use Rattle.ranking.proofs.Lists.{greatest_le}
 use Rattle.ranking.proofs.Turns.{every_turn}
 use Rattle.ranking.proofs.Joined.{join_adds, adds_none, adds_like, adds_then, repeat_adds}
-use Rattle.merging.specs.Ways.{when, mergings, from_left, from_right}
-use Rattle.merging.specs.Pop.{clocks_of, mark_item, marked, shared, agrees, frame_of, finished, upto, no_keys, merged, here, join_all, rounds, tried, below_of, pops}
+use Rattle.merging.specs.declared.Side.TheVariants.{Left, Right}
+use Rattle.merging.specs.Ways.{when, mergings, rank_on}
+use Rattle.ranking.specs.Items.{clocks_of}
+use Rattle.merging.specs.Pop.{mark_item, marked, shared, agrees, frame_of, finished, upto, no_keys, merged, here, join_all, rounds, tried, below_of, pops}
 use Rattle.merging.specs.Law.{projected, region_of, Joins, with_mark, Popped, PopLaw}
 use Rattle.merging.proofs.Bound.{few_mergings, mono, most, lone}
 use Rattle.merging.proofs.Count.{lone_left, lone_right}
@@ -76,7 +78,7 @@ module _ (w : Scope) (xs us : List Item) (gx : Good (2 * clocks_of w + 4) (ceili
       let ts = shared n xs us in
       let ks = mergings ts (upto (greatest xs)) (upto (greatest us)) 0 no_keys in
       let a = few_mergings ts (range_with_len 1 (greatest xs)) (range_with_len 1 (greatest us)) 0 no_keys in
-      let b = mono (lone from_left ts (range_with_len 1 (greatest xs))) (lone from_right ts (range_with_len 1 (greatest us))) 5 4
+      let b = mono (lone (rank_on Left) ts (range_with_len 1 (greatest xs))) (lone (rank_on Right) ts (range_with_len 1 (greatest us))) 5 4
       (omega (arith, lone_left n n_few xs us gx.long gu.long gx.gapless gu.gapless, n_few)) (omega (arith, lone_right n n_few xs us gx.long gu.long gx.gapless gu.gapless, n_few)) in
       let e : length ks ≡ length (mergings ts (range_with_len 1 (greatest xs)) (range_with_len 1 (greatest us)) 0 no_keys) = ap length (same_mergings n n_few xs us gx.long gu.long gx.gapless gu.gapless) in
       let m = length-map ks (finished w (frame_of n xs us)) in

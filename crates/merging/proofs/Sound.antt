@@ -5,7 +5,8 @@ use Rattle.std.proofs.lemmas.Bool.{cases_eq, and_parts, not-true, eqb-false}
 use Rattle.std.proofs.lemmas.Bool.Decides.{nat_tests}
 use Rattle.merging.specs.declared.Tie.{Tie}
 use Rattle.merging.specs.declared.Keys.{Keys}
-use Rattle.merging.specs.Ways.{alone, together, same_test, from_left, from_right, on_left, on_right}
+use Rattle.merging.specs.declared.Side.TheVariants.{Left, Right}
+use Rattle.merging.specs.Ways.{alone, together, same_test, rank_on, on}
 use Rattle.merging.proofs.Ways.{Way, done, goes_left, goes_right, goes_both, written}
 
 abbrev pub left_at : Keys → ℕ → ℕ
@@ -68,7 +69,7 @@ module _ (i p : ℕ) (xs : List ℕ) (small : i + 1 < length xs) (zero-first : g
   next_old q le = let s = set_at xs (i + 1) (p + 1) q small in grind (arith, nat_tests)
 
 module _ (ts : List Tie) (i j p : ℕ) (k : Keys) (s : Sofar ts i j p k) where
-  pub step_left : i + 1 < 11 → alone from_left (i + 1) ts ≡ true → Sofar ts (i + 1) j (p + 1) (on_left (i + 1) (p + 1) k)
+  pub step_left : i + 1 < 11 → alone (rank_on Left) (i + 1) ts ≡ true → Sofar ts (i + 1) j (p + 1) (on Left (i + 1) (p + 1) k)
   step_left small a =
       let small' : i + 1 < length k.left = omega (arith, s.left_long) in
       record {
@@ -83,10 +84,10 @@ module _ (ts : List Tie) (i j p : ℕ) (k : Keys) (s : Sofar ts i j p k) where
         ties = all_with _ _ _ (λ t h n.
             let le : t.left.rank ≤ i + 1 → t.left.rank ≤ i = λ e. grind arith in
             ((λ e. h.0 (le e)), (λ e. omega (arith, h.1 e)), (λ e. next_old i p k.left small' s.left_zero s.left_low s.left_up t.left.rank (le e) ∙ h.2 (le e))))
-            ts s.ties (alone_each from_left (i + 1) ts a);
+            ts s.ties (alone_each (rank_on Left) (i + 1) ts a);
       }
 
-  pub step_right : j + 1 < 11 → alone from_right (j + 1) ts ≡ true → Sofar ts i (j + 1) (p + 1) (on_right (j + 1) (p + 1) k)
+  pub step_right : j + 1 < 11 → alone (rank_on Right) (j + 1) ts ≡ true → Sofar ts i (j + 1) (p + 1) (on Right (j + 1) (p + 1) k)
   step_right small a =
       let small' : j + 1 < length k.right = omega (arith, s.right_long) in
       record {
@@ -101,10 +102,10 @@ module _ (ts : List Tie) (i j p : ℕ) (k : Keys) (s : Sofar ts i j p k) where
         ties = all_with _ _ _ (λ t h n.
             let le : t.right.rank ≤ j + 1 → t.right.rank ≤ j = λ e. grind arith in
             ((λ e. omega (arith, h.0 e)), (λ e. h.1 (le e)), (λ e. h.2 e ∙ sym (next_old j p k.right small' s.right_zero s.right_low s.right_up t.right.rank (h.0 e)))))
-            ts s.ties (alone_each from_right (j + 1) ts a);
+            ts s.ties (alone_each (rank_on Right) (j + 1) ts a);
       }
 
-  pub step_both : i + 1 < 11 → j + 1 < 11 → together (i + 1) (j + 1) ts ≡ true → Sofar ts (i + 1) (j + 1) (p + 1) (on_right (j + 1) (p + 1) (on_left (i + 1) (p + 1) k))
+  pub step_both : i + 1 < 11 → j + 1 < 11 → together (i + 1) (j + 1) ts ≡ true → Sofar ts (i + 1) (j + 1) (p + 1) (on Right (j + 1) (p + 1) (on Left (i + 1) (p + 1) k))
   step_both small smaller a =
       let sl : i + 1 < length k.left = omega (arith, s.left_long) in
       let sr : j + 1 < length k.right = omega (arith, s.right_long) in

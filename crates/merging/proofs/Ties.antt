@@ -1,23 +1,22 @@
 use Rattle.std.proofs.Common.{◌≡◌, ℕ, zero, suc, ◌+◌, ◌*◌, ◌<◌, ◌≤◌, min, Bool, true, false, ◌&&◌, eqb, leb, List, [], ◌∷◌, length, get_or, take, drop, sym, refl, ap, ◌∙◌, subst, ⊎_elim, arith}
-use Rattle.std.specs.List.{range_with_len, AllByRecursion}
+use Rattle.std.specs.List.{list_all, range_with_len, AllByRecursion}
 use Rattle.std.proofs.lemmas.List.{get_or-take, get_or-drop, get_or_past, length-take, length-drop}
 use Rattle.std.proofs.ByRecursion.{All-get_or}
 use Rattle.std.proofs.lemmas.Bool.{cases_lt, and_parts, and_from, eqb-true, eq-eqb, leb-true}
 use Rattle.std.proofs.lemmas.Bool.Decides.{nat_tests}
-use Rattle.abstraction.specs.Lists.{all}
 use Rattle.ranking.specs.declared.Item.{Item}
 use Rattle.ranking.specs.Items.{none}
 use Rattle.merging.specs.declared.Tie.{Tie}
 use Rattle.merging.specs.Ways.{same_test}
 use Rattle.merging.specs.Pop.{blank_tie, tie, ties_of, shared, like, in_order, agrees, upto}
 
-pub all_from : {X : Type 0} (p : X → Bool) (xs : List X) → AllByRecursion (λ x. p x ≡ true) xs → all p xs ≡ true
+pub all_from : {X : Type 0} (p : X → Bool) (xs : List X) → AllByRecursion (λ x. p x ≡ true) xs → list_all p xs ≡ true
 all_from p [] h = refl
-all_from p (x ∷ xs) h = and_from (p x) (all p xs) h.0 (all_from p xs h.1)
+all_from p (x ∷ xs) h = and_from (p x) (list_all p xs) h.0 (all_from p xs h.1)
 
-pub all_to : {X : Type 0} (p : X → Bool) (xs : List X) → all p xs ≡ true → AllByRecursion (λ x. p x ≡ true) xs
+pub all_to : {X : Type 0} (p : X → Bool) (xs : List X) → list_all p xs ≡ true → AllByRecursion (λ x. p x ≡ true) xs
 all_to p [] h = tt
-all_to p (x ∷ xs) h = let a = and_parts (p x) (all p xs) h in (a.0, all_to p xs a.1)
+all_to p (x ∷ xs) h = let a = and_parts (p x) (list_all p xs) h in (a.0, all_to p xs a.1)
 
 ties_at : (ls rs : List Item) (i : ℕ) → i < 5 → get_or (ties_of ls rs) i blank_tie ≡ tie ls rs i
 ties_at ls rs zero lt = refl
@@ -76,8 +75,8 @@ pub in_order_from : (t v : Tie) → (t.left.rank ≤ v.left.rank → t.right.ran
 in_order_from t v f g = same_true (leb t.left.rank v.left.rank) (leb t.right.rank v.right.rank) (λ e. let h = f (leb-true _ _ e) in grind (arith, nat_tests)) (λ e. let h = g (leb-true _ _ e) in grind (arith, nat_tests))
 
 pub likes : (ts : List Tie) → agrees ts ≡ true → AllByRecursion (λ t. like t ≡ true) ts
-likes ts e = go ts (all_to (λ t. like t && all (in_order t) ts) ts e)
+likes ts e = go ts (all_to (λ t. like t && list_all (in_order t) ts) ts e)
   where
-    go : (us : List Tie) → AllByRecursion (λ t. (like t && all (in_order t) ts) ≡ true) us → AllByRecursion (λ t. like t ≡ true) us
+    go : (us : List Tie) → AllByRecursion (λ t. (like t && list_all (in_order t) ts) ≡ true) us → AllByRecursion (λ t. like t ≡ true) us
     go [] a = tt
-    go (t ∷ us) a = ((and_parts (like t) (all (in_order t) ts) a.0).0, go us a.1)
+    go (t ∷ us) a = ((and_parts (like t) (list_all (in_order t) ts) a.0).0, go us a.1)

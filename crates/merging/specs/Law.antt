@@ -3,13 +3,12 @@ use Rattle.abstraction.specs.Lists.{In}
 use Rattle.abstraction.specs.declared.scope.Scope.{Scope}
 use Rattle.ranking.specs.declared.Item.{Item}
 use Rattle.ranking.specs.declared.Region.{Region}
-use Rattle.ranking.specs.Items.{none, with_items, rank_at, places, ceiling, each}
+use Rattle.ranking.specs.Items.{none, with_items, rank_at, clocks_of, places, ceiling, each}
 use Rattle.ranking.specs.Ranks.{Gapless}
 use Rattle.ranking.specs.Close.{shut}
 use Rattle.ranking.specs.Rotation.{turns}
 use Rattle.ranking.specs.Lawful.{front, Lawful}
 use Rattle.ranking.specs.Joined.{Once}
-use Rattle.merging.specs.Pop.{clocks_of}
 
 -- a region over all items of two frames of n clocks: the clocks and the age above, then the clocks, the
 -- age and the mark below, which are the kept clocks, the kept age and the time elapsed above, then the

@@ -1,9 +1,9 @@
 use Rattle.std.specs.Prelude.{ℕ, ◌+◌, ◌-◌, ◌*◌, min, Bool, cond, ◌&&◌, List, [], ◌∷◌, map, take, drop, replicate, ◌==◌, nat_le, nat_lt, slice_index, slice_index_or}
-use Rattle.abstraction.specs.Lists.{all}
+use Rattle.std.specs.List.{list_all}
 use Rattle.abstraction.specs.declared.scope.Scope.{Scope}
 use Rattle.ranking.specs.declared.Item.{Item}
 use Rattle.ranking.specs.declared.Region.{Region}
-use Rattle.ranking.specs.Items.{none, with_items, places, ceiling, each}
+use Rattle.ranking.specs.Items.{none, with_items, clocks_of, places, ceiling, each}
 use Rattle.ranking.specs.Close.{closed}
 use Rattle.ranking.specs.Rotation.{greatest, turns}
 use Rattle.ranking.specs.Joined.{join, repeat}
@@ -11,10 +11,6 @@ use Rattle.merging.specs.declared.Tie.{Tie}
 use Rattle.merging.specs.declared.Keys.{Keys}
 use Rattle.merging.specs.declared.Draft.{Draft}
 use Rattle.merging.specs.Ways.{same_test, when, mergings}
-
--- the clocks that count
-abbrev pub clocks_of : Scope → ℕ
-clocks_of w = min w.clocks 3
 
 -- the frame below with a mark after its age: the clocks, the age, the mark, the kept values, the time elapsed
 abbrev pub mark_item : ℕ → List Item → ℕ → Item
@@ -31,7 +27,7 @@ abbrev pub tie : List Item → List Item → ℕ → Tie
 tie ls rs i = record { left = slice_index_or ls i none; right = slice_index_or rs i none }
 
 abbrev pub ties_of : List Item → List Item → List Tie
-ties_of ls rs = tie ls rs 0 ∷ tie ls rs 1 ∷ tie ls rs 2 ∷ tie ls rs 3 ∷ tie ls rs 4 ∷ []
+ties_of ls rs = each (λ i _. tie ls rs i) 0 (replicate 5 blank_tie)
 
 -- the clocks, the age and the mark below against the kept clocks, the kept age and the time elapsed above
 abbrev pub shared : ℕ → List Item → List Item → List Tie
@@ -46,7 +42,7 @@ abbrev pub in_order : Tie → Tie → Bool
 in_order t v = same_test (nat_le t.left.rank v.left.rank) (nat_le t.right.rank v.right.rank)
 
 abbrev pub agrees : List Tie → Bool
-agrees ts = all (λ t. like t && all (in_order t) ts) ts
+agrees ts = list_all (λ t. like t && list_all (in_order t) ts) ts
 
 -- the frame after the pop, each item with its rank on its own side: the clocks above, and the age, the
 -- kept values and the time elapsed below

@@ -1,17 +1,17 @@
-use Rattle.std.specs.Prelude.{ℕ, ◌+◌, Bool, true, false, cond, not, ◌&&◌, List, [], ◌∷◌, ◌++◌, ◌==◌, slice_set}
+use Rattle.std.specs.Prelude.{ℕ, ◌+◌, Bool, true, false, cond, not, List, [], ◌∷◌, ◌++◌, ◌==◌, slice_set}
+use Rattle.std.specs.List.{list_all}
+use Rattle.merging.specs.declared.Side.{Side}
+use Rattle.merging.specs.declared.Side.TheVariants.{Left, Right}
 use Rattle.merging.specs.declared.Tie.{Tie}
 use Rattle.merging.specs.declared.Keys.{Keys}
 
-abbrev pub from_left : Tie → ℕ
-from_left t = t.left.rank
-
-abbrev pub from_right : Tie → ℕ
-from_right t = t.right.rank
+abbrev pub rank_on : Side → Tie → ℕ
+rank_on Left t = t.left.rank
+rank_on Right t = t.right.rank
 
 -- no tie has this rank
 abbrev pub alone : (Tie → ℕ) → ℕ → List Tie → Bool
-alone f r [] = true
-alone f r (t ∷ ts) = not (f t == r) && alone f r ts
+alone f r ts = list_all (λ t. not (f t == r)) ts
 
 abbrev pub same_test : Bool → Bool → Bool
 same_test true b = b
@@ -19,15 +19,16 @@ same_test false b = not b
 
 -- the ties of the one rank are those of the other
 abbrev pub together : ℕ → ℕ → List Tie → Bool
-together l r [] = true
-together l r (t ∷ ts) = same_test (t.left.rank == l) (t.right.rank == r) && together l r ts
+together l r ts = list_all (λ t. same_test (t.left.rank == l) (t.right.rank == r)) ts
 
--- a rank of the one side, of the other, or both get the place p
-abbrev pub on_left : ℕ → ℕ → Keys → Keys
-on_left l p k = record { left = slice_set k.left l p; right = k.right }
+abbrev pub keys_on : Side → Keys → List ℕ
+keys_on Left k = k.left
+keys_on Right k = k.right
 
-abbrev pub on_right : ℕ → ℕ → Keys → Keys
-on_right r p k = record { left = k.left; right = slice_set k.right r p }
+-- a rank of a side gets the place p
+abbrev pub on : Side → ℕ → ℕ → Keys → Keys
+on Left r p k = record { left = slice_set k.left r p; right = k.right }
+on Right r p k = record { left = k.left; right = slice_set k.right r p }
 
 abbrev pub when : {X : Type 0} → Bool → List X → List X
 when b xs = cond b xs []
@@ -35,15 +36,15 @@ when b xs = cond b xs []
 -- what is left are ranks of the right side
 abbrev pub rights : List Tie → List ℕ → ℕ → Keys → List Keys
 rights ts [] p k = k ∷ []
-rights ts (r ∷ rs) p k = when (alone from_right r ts) (rights ts rs (p + 1) (on_right r (p + 1) k))
+rights ts (r ∷ rs) p k = when (alone (rank_on Right) r ts) (rights ts rs (p + 1) (on Right r (p + 1) k))
 
 -- the left side's next rank is l, and go merges what is left once it has its place
 abbrev pub steps : List Tie → ℕ → (List ℕ → ℕ → Keys → List Keys) → List ℕ → ℕ → Keys → List Keys
-steps ts l go [] p k = when (alone from_left l ts) (go [] (p + 1) (on_left l (p + 1) k))
+steps ts l go [] p k = when (alone (rank_on Left) l ts) (go [] (p + 1) (on Left l (p + 1) k))
 steps ts l go (r ∷ rs) p k =
-    when (alone from_left l ts) (go (r ∷ rs) (p + 1) (on_left l (p + 1) k))
-    ++ (when (alone from_right r ts) (steps ts l go rs (p + 1) (on_right r (p + 1) k))
-    ++ when (together l r ts) (go rs (p + 1) (on_right r (p + 1) (on_left l (p + 1) k))))
+    when (alone (rank_on Left) l ts) (go (r ∷ rs) (p + 1) (on Left l (p + 1) k))
+    ++ (when (alone (rank_on Right) r ts) (steps ts l go rs (p + 1) (on Right r (p + 1) k))
+    ++ when (together l r ts) (go rs (p + 1) (on Right r (p + 1) (on Left l (p + 1) k))))
 
 -- every merging of the two orders of ranks that are left: one of them goes on, or both do
 abbrev pub mergings : List Tie → List ℕ → List ℕ → ℕ → Keys → List Keys

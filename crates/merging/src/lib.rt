@@ -2,18 +2,24 @@
 
 // The pop of two regions: the frame above is taken away, and the frame below goes on.
 
-ghost use Rattle.std.specs.Prelude.{◌≡◌, ◌+◌, ◌*◌, ◌<◌, ◌≤◌, min, true, false, ◌&&◌, map, length, slice_index, slice_index_or, slice_set};
-ghost use Rattle.abstraction.specs.Lists.{all};
+ghost use Rattle.std.specs.Prelude.{◌≡◌, ◌+◌, ◌<◌, ◌≤◌, ◌&&◌, map, length, slice_index, slice_index_or, slice_set};
+ghost use Rattle.std.specs.List.{list_all};
 ghost use Rattle.abstraction.specs.Room.{shapes as shapes_of};
-ghost use Rattle.ranking.specs.Items.{none, each, places};
-ghost use Rattle.merging.specs.Ways.{alone, together, from_left, from_right, on_left, on_right, mergings};
-ghost use Rattle.merging.specs.Pop.{clocks_of, mark_item, tie as tie_at, ties_of, like as likeness, in_order, agrees, part as part_of, frame_of, join_all, finished, rekeyed, with_keys, merged, here, rounds as rounds_of, tried, pops as popping};
+ghost use Rattle.ranking.specs.Items.{none, with_items, clocks_of, each, places};
+ghost use Rattle.merging.specs.Ways.{rank_on, alone, together, keys_on, on, mergings};
+ghost use Rattle.merging.specs.Pop.{mark_item, marked as marked_of, ties_of, like as likeness, in_order, agrees, part as part_of, frame_of, join_all, finished, rekeyed, with_keys, merged, here, rounds as rounds_of, tried, pops as popping};
 ghost use Rattle.merging.specs.Law.{PopLaw};
 
 use abstraction::{Listing, Scope};
-use ranking::{Item, Region, ceiling, closed, items_in_use, join, rotate, top_rank};
+use ranking::{Item, Region, ceiling, clocks_in_use, closed, items_in_use, join, rotate, top_rank};
+use std::array;
 
-const NONE: Item = Item { whole: 0, rank: 0 };
+// The frame below is on the left, the one above on the right.
+#[derive(Clone, Copy)]
+enum Side {
+    Left,
+    Right,
+}
 
 // An item that both frames have, as each of them sees it.
 #[derive(Clone, Copy)]
@@ -22,55 +28,102 @@ struct Tie {
     right: Item,
 }
 
-// The place of each rank of the two sides in a merged order.
-#[derive(Clone, Copy)]
-struct Keys {
-    left: [u8; 11],
-    right: [u8; 11],
-}
-
-// Whether no item in common has this rank on the left side.
-fn alone_left(ties: &[Tie], rank: u8) -> bool
-    ensures { result ≡ alone from_left rank ties.now }
-{
-    for tie in ties {
-        if tie.left.rank == rank {
-            return false;
+impl Tie {
+    fn rank(self, side: Side) -> u8
+        ensures { result ≡ rank_on side self }
+    {
+        match side {
+            Side::Left => self.left.rank,
+            Side::Right => self.right.rank,
         }
     }
-    true
+
+    // Whether both sides have the same whole part, and a fraction on both or on none.
+    fn is_alike(self) -> bool
+        ensures { result ≡ likeness self }
+    {
+        self.left.whole == self.right.whole && (self.left.rank == 0) == (self.right.rank == 0)
+    }
+
+    // Whether two items' fractions are in the same order on both sides.
+    fn is_ordered(self, other: Tie) -> bool
+        ensures { result ≡ in_order self other }
+    {
+        (self.left.rank <= other.left.rank) == (self.right.rank <= other.right.rank)
+    }
 }
 
-// Whether no item in common has this rank on the right side.
-fn alone_right(ties: &[Tie], rank: u8) -> bool
-    ensures { result ≡ alone from_right rank ties.now }
+// Whether no item in common has this rank on that side.
+fn alone(ties: &[Tie], side: Side, rank: u8) -> bool
+    ensures { result ≡ alone (rank_on side) rank ties.now }
 {
-    for tie in ties {
-        if tie.right.rank == rank {
-            return false;
-        }
-    }
-    true
+    ties.iter().all(|tie| tie.rank(side) != rank)
 }
 
 // Whether the items in common of the one rank are those of the other.
 fn meet(ties: &[Tie], left: u8, right: u8) -> bool
     ensures { result ≡ together left right ties.now }
 {
-    for tie in ties {
-        if (tie.left.rank == left) != (tie.right.rank == right) {
-            return false;
-        }
-    }
-    true
+    ties.iter()
+        .all(|tie| (tie.left.rank == left) == (tie.right.rank == right))
 }
 
-// Gives a rank its place.
+// Whether an item's fraction is to the others' on one side as on the other.
+fn ordered(tie: Tie, ties: &[Tie]) -> bool
+    ensures { result ≡ list_all (in_order tie) ties.now }
+{
+    ties.iter().all(|other| tie.is_ordered(*other))
+}
+
+// Whether an item in common is the same on both sides.
+fn fits(tie: Tie, ties: &[Tie]) -> bool
+    ensures { result ≡ (likeness tie && list_all (in_order tie) ties.now) }
+{
+    tie.is_alike() && ordered(tie, ties)
+}
+
+fn agree(ties: &[Tie]) -> bool
+    ensures { result ≡ agrees ties.now }
+{
+    ties.iter().all(|tie| fits(*tie, ties))
+}
+
+// The place of each rank of the two sides in a merged order; memory is fixed, and no call allocates.
+#[derive(Clone, Copy)]
+struct Keys {
+    left: [u8; 11],
+    right: [u8; 11],
+}
+
+// Gives a rank its place. Not by get_mut, after which a proof knows no element.
 fn place(keys: &mut [u8], rank: u8, key: u8)
     ensures { keys.new ≡ slice_set keys.old rank key }
 {
     if (rank as usize) < keys.len() {
         keys[rank as usize] = key;
+    }
+}
+
+impl Keys {
+    fn of(self, side: Side, rank: u8) -> u8
+        ensures { result ≡ slice_index (keys_on side self) rank }
+    {
+        let keys = match side {
+            Side::Left => self.left,
+            Side::Right => self.right,
+        };
+        keys.get(rank as usize).copied().unwrap_or(0)
+    }
+
+    fn with(self, side: Side, rank: u8, key: u8) -> Keys
+        ensures { result ≡ on side rank key self }
+    {
+        let mut next = self;
+        match side {
+            Side::Left => place(&mut next.left, rank, key),
+            Side::Right => place(&mut next.right, rank, key),
+        }
+        next
     }
 }
 
@@ -82,73 +135,45 @@ struct Draft {
     keys: Keys,
 }
 
-fn place_left(draft: Draft, rank: u8, key: u8) -> Draft
-    ensures { result ≡ with_keys draft (on_left rank key draft.keys) }
-{
-    let mut next = draft;
-    place(&mut next.keys.left, rank, key);
-    next
-}
-
-fn place_right(draft: Draft, rank: u8, key: u8) -> Draft
-    ensures { result ≡ with_keys draft (on_right rank key draft.keys) }
-{
-    let mut next = draft;
-    place(&mut next.keys.right, rank, key);
-    next
-}
-
-fn clocks_of(scope: Scope) -> usize
-    ensures value { result ≡ clocks_of scope }
-    ensures few { result ≤ 3 }
-{
-    if scope.clocks < 3 {
-        scope.clocks as usize
-    } else {
-        3
+impl Draft {
+    fn with(self, side: Side, rank: u8, key: u8) -> Draft
+        ensures { result ≡ with_keys self (on side rank key self.keys) }
+    {
+        Draft {
+            keys: self.keys.with(side, rank, key),
+            ..self
+        }
     }
-}
 
-fn key_of(keys: &[u8], rank: u8) -> u8
-    ensures { result ≡ slice_index keys.now rank }
-{
-    if (rank as usize) < keys.len() {
-        keys[rank as usize]
-    } else {
-        0
+    // An item with its place in the merged order as its rank; the clocks are on the right side.
+    fn rekey(self, place: usize, item: Item) -> Item
+        ensures { result ≡ rekeyed (clocks_of self.scope) self.keys place item }
+    {
+        let side = if place < clocks_in_use(self.scope) {
+            Side::Right
+        } else {
+            Side::Left
+        };
+        Item {
+            whole: item.whole,
+            rank: self.keys.of(side, item.rank),
+        }
     }
-}
 
-// An item with its place in the merged order as its rank; the clocks are on the right side.
-fn rekey(keys: &Keys, clocks: usize, place: usize, item: Item) -> Item
-    ensures { result ≡ rekeyed clocks keys.now place item }
-{
-    let rank = if place < clocks {
-        key_of(&keys.right, item.rank)
-    } else {
-        key_of(&keys.left, item.rank)
-    };
-    Item {
-        whole: item.whole,
-        rank,
+    fn rekey_all(self) -> Region
+        ensures { result ≡ with_items (each (rekeyed (clocks_of self.scope) self.keys) 0 self.frame.items) }
+    {
+        Region {
+            items: array::from_fn(|i| self.rekey(i, self.frame.items[i])),
+        }
     }
-}
 
-fn rekey_each(items: &mut [Item], keys: &Keys, clocks: usize)
-    ensures { items.new ≡ each (rekeyed clocks keys.now) 0 items.old }
-{
-    for i in 0..items.len() {
-        items[i] = rekey(keys, clocks, i, items[i]);
+    // The merged region, its ranks closed up.
+    fn finish(self) -> Region
+        ensures { result ≡ finished self.scope self.frame self.keys }
+    {
+        closed(self.scope, self.rekey_all())
     }
-}
-
-// The merged region, its ranks closed up.
-fn finish(draft: Draft) -> Region
-    ensures { result ≡ finished draft.scope draft.frame draft.keys }
-{
-    let mut next = draft.frame;
-    rekey_each(&mut next.items, &draft.keys, clocks_of(draft.scope));
-    closed(draft.scope, next)
 }
 
 // Lists each merging of the two orders of ranks that are left.
@@ -157,30 +182,31 @@ fn merge(ties: &[Tie], left: &[u8], right: &[u8], key: u8, draft: Draft, out: &m
     ensures { shapes_of out.new ≡ join_all (shapes_of out.old) (map (finished draft.scope draft.frame) (mergings ties.now left.now right.now key draft.keys)) }
 {
     match (left.split_first(), right.split_first()) {
-        (None, None) => join(out, finish(draft)),
+        (None, None) => join(out, draft.finish()),
         (Some((l, ls)), None) => {
-            if alone_left(ties, *l) {
-                let next = place_left(draft, *l, key + 1);
+            if alone(ties, Side::Left, *l) {
+                let next = draft.with(Side::Left, *l, key + 1);
                 merge(ties, ls, right, key + 1, next, out);
             }
         }
         (None, Some((r, rs))) => {
-            if alone_right(ties, *r) {
-                let next = place_right(draft, *r, key + 1);
+            if alone(ties, Side::Right, *r) {
+                let next = draft.with(Side::Right, *r, key + 1);
                 merge(ties, left, rs, key + 1, next, out);
             }
         }
         (Some((l, ls)), Some((r, rs))) => {
-            if alone_left(ties, *l) {
-                let next = place_left(draft, *l, key + 1);
+            if alone(ties, Side::Left, *l) {
+                let next = draft.with(Side::Left, *l, key + 1);
                 merge(ties, ls, right, key + 1, next, out);
             }
-            if alone_right(ties, *r) {
-                let next = place_right(draft, *r, key + 1);
+            if alone(ties, Side::Right, *r) {
+                let next = draft.with(Side::Right, *r, key + 1);
                 merge(ties, left, rs, key + 1, next, out);
             }
             if meet(ties, *l, *r) {
-                let both = place_right(place_left(draft, *l, key + 1), *r, key + 1);
+                let one = draft.with(Side::Left, *l, key + 1);
+                let both = one.with(Side::Right, *r, key + 1);
                 merge(ties, ls, rs, key + 1, both, out);
             }
         }
@@ -190,66 +216,17 @@ fn merge(ties: &[Tie], left: &[u8], right: &[u8], key: u8, draft: Draft, out: &m
 fn at(items: &[Item], i: usize) -> Item
     ensures { result ≡ slice_index_or items.now i none }
 {
-    if i < items.len() { items[i] } else { NONE }
-}
-
-fn tie_item(below: &[Item], above: &[Item], i: usize) -> Tie
-    ensures { result ≡ tie_at below.now above.now i }
-{
-    Tie {
-        left: at(below, i),
-        right: at(above, i),
-    }
+    items.get(i).copied().unwrap_or(Item::NONE)
 }
 
 // The items that both frames have; there are at most five.
 fn tie_all(below: &[Item], above: &[Item]) -> [Tie; 5]
     ensures { result ≡ ties_of below.now above.now }
 {
-    [
-        tie_item(below, above, 0),
-        tie_item(below, above, 1),
-        tie_item(below, above, 2),
-        tie_item(below, above, 3),
-        tie_item(below, above, 4),
-    ]
-}
-
-// Whether both sides have the same whole part, and a fraction on both or on none.
-fn alike(tie: Tie) -> bool
-    ensures { result ≡ likeness tie }
-{
-    tie.left.whole == tie.right.whole && (tie.left.rank == 0) == (tie.right.rank == 0)
-}
-
-// Whether an item's fraction is to the others' on one side as on the other.
-fn ordered(tie: Tie, ties: &[Tie]) -> bool
-    ensures { result ≡ all (in_order tie) ties.now }
-{
-    for other in ties {
-        if (tie.left.rank <= other.left.rank) != (tie.right.rank <= other.right.rank) {
-            return false;
-        }
-    }
-    true
-}
-
-// Whether an item in common is the same on both sides.
-fn fits(tie: Tie, ties: &[Tie]) -> bool
-    ensures { result ≡ (likeness tie && all (in_order tie) ties.now) }
-{
-    alike(tie) && ordered(tie, ties)
-}
-
-fn agree(ties: &[Tie]) -> bool
-    ensures { result ≡ agrees ties.now }
-{
-    for tie in ties {
-        if !fits(*tie, ties) {
-            return false;
-        }
-    }
-    true
+    array::from_fn(|i| Tie {
+        left: at(below, i),
+        right: at(above, i),
+    })
 }
 
 // The item at a place of the frame below with a mark, of no whole part and no fraction, after its age.
@@ -260,19 +237,17 @@ fn mark_at(items: &[Item], clocks: usize, i: usize) -> Item
     if i < clocks + 1 {
         at(items, i)
     } else if i == clocks + 1 {
-        NONE
+        Item::NONE
     } else {
         at(items, i - 1)
     }
 }
 
-fn mark_each(below: &mut [Item], items: &[Item], clocks: usize)
+fn marked(items: &[Item], clocks: usize) -> [Item; 10]
     requires { clocks ≤ 3 }
-    ensures { below.new ≡ each (λ i _. mark_item clocks items.now i) 0 below.old }
+    ensures { result ≡ marked_of clocks items.now }
 {
-    for i in 0..below.len() {
-        below[i] = mark_at(items, clocks, i);
-    }
+    array::from_fn(|i| mark_at(items, clocks, i))
 }
 
 // The item at a place of the frame after the pop, with its rank on its own side.
@@ -289,27 +264,12 @@ fn part(below: &[Item], above: &[Item], clocks: usize, i: usize) -> Item
     }
 }
 
-fn part_each(items: &mut [Item], below: &[Item], above: &[Item], clocks: usize)
-    requires { length items.old ≤ 9 }
-    ensures { items.new ≡ each (λ i _. part_of clocks below.now above.now i) 0 items.old }
-{
-    for i in 0..items.len() {
-        items[i] = part(below, above, clocks, i);
-    }
-}
-
 fn frame(below: &[Item], above: &[Item], clocks: usize) -> Region
     ensures { result ≡ frame_of clocks below.now above.now }
 {
-    let mut next = Region { items: [NONE; 9] };
-    part_each(&mut next.items, below, above, clocks);
-    next
-}
-
-fn at_most_ten(rank: u8) -> usize
-    ensures { result ≡ min rank 10 }
-{
-    if rank < 10 { rank as usize } else { 10 }
+    Region {
+        items: array::from_fn(|i| part(below, above, clocks, i)),
+    }
 }
 
 // Lists every merging of the frames, which agree.
@@ -317,9 +277,9 @@ fn merge_all(scope: Scope, ties: &[Tie], below: &[Item], above: &[Item], out: &m
     ensures { shapes_of out.new ≡ join_all (shapes_of out.old) (merged scope ties.now below.now above.now) }
 {
     let ranks = [1, 2, 3, 4, 5, 6, 7, 8, 9, 10];
-    let left = at_most_ten(top_rank(below));
-    let right = at_most_ten(top_rank(above));
-    let frame = frame(below, above, clocks_of(scope));
+    let left = top_rank(below).min(10) as usize;
+    let right = top_rank(above).min(10) as usize;
+    let frame = frame(below, above, clocks_in_use(scope));
     let keys = Keys {
         left: [0; 11],
         right: [0; 11],
@@ -333,7 +293,7 @@ fn list_here(scope: Scope, below: &[Item], above: &[Item], out: &mut Listing<Reg
     requires { (length below.now ≡ places scope + 1) × (length above.now ≡ places scope) }
     ensures { shapes_of out.new ≡ join_all (shapes_of out.old) (here scope below.now above.now) }
 {
-    let clocks = clocks_of(scope);
+    let clocks = clocks_in_use(scope);
     let ties = tie_all(&below[0..clocks + 2], &above[clocks + 1..2 * clocks + 3]);
     if agree(&ties) {
         merge_all(scope, &ties, below, above, out);
@@ -371,8 +331,7 @@ pub fn pops(scope: Scope, s: Region, u: Region, out: &mut Listing<Region>)
 {
     out.clear();
     let used = items_in_use(scope);
-    let mut below = [NONE; 10];
-    mark_each(&mut below, &s.items, clocks_of(scope));
+    let mut below = marked(&s.items, clocks_in_use(scope));
     let most = rounds(scope, &below[0..used + 1]);
     try_rotations(scope, most, &mut below[0..used + 1], &u.items[0..used], out);
 }
@@ -388,7 +347,17 @@ mod tests {
 
     fn of_one_clock(a: Item, b: Item, c: Item, d: Item, e: Item) -> Region {
         Region {
-            items: [a, b, c, d, e, NONE, NONE, NONE, NONE],
+            items: [
+                a,
+                b,
+                c,
+                d,
+                e,
+                Item::NONE,
+                Item::NONE,
+                Item::NONE,
+                Item::NONE,
+            ],
         }
     }
 
