@@ -1,3 +1,6 @@
+pub mod Spots
+pub mod Kept
+pub mod Words
 pub mod Deciding
 pub mod Reflect
 pub mod Firsts

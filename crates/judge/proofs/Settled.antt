@@ -1,19 +1,16 @@
-use Rattle.std.proofs.Common.{◌≡◌, ℕ, ◌≤◌, true, ◌&&◌, ltb, List, ap, ◌∙◌}
+use Rattle.std.proofs.Common.{◌≡◌, ℕ, ◌≤◌, true, ◌&&◌, ltb}
 use Rattle.std.proofs.lemmas.Bool.{and_parts, ltb-true}
-use Rattle.fault.specs.Faults.{Outcome}
-use Rattle.abstraction.specs.Owes.{Answers, Meaning, Small, ListsLawfully}
+use Rattle.abstraction.specs.Owes.{Meaning, Small, ListsLawfully}
 use Rattle.abstraction.proofs.Found.{all_true}
 use Rattle.automaton.specs.Edits.{sizes}
-use Rattle.automaton.specs.Runs.{Automaton}
 use Rattle.automaton.specs.Lawful.{names, lawful, all_lawful, Clocked}
 use Rattle.automaton.specs.declared.rule.Sizes.{Sizes}
 use Rattle.automaton.specs.declared.rule.Rule.{Rule}
 use Rattle.automaton.specs.declared.rule.Action.{Action}
 use Rattle.automaton.specs.declared.rule.Action.TheVariants.{Move, Test, Assign, Push, Pop}
-use Rattle.judge.specs.Claims.{Claim, claim, scope}
+use Rattle.judge.specs.Claims.{Claim, scope}
 use Rattle.judge.specs.Judged.{judged}
 use Rattle.judge.specs.Law.{Sound}
-use Rattle.judge.specs.declared.entry.Entry.{Entry}
 use Rattle.judge.proofs.Verdict.{lawful_verdict}
 use Rattle.judge.proofs.Sound.{never_in_target}
 
@@ -35,11 +32,3 @@ settled z m n few rules lists h cov (D, one, c, r, q) =
     let (l, cl) = (lawful_verdict z n).accepts h in
     let small : Small (scope z) = (few, l.fit.small) in
     never_in_target z D (m (scope z) D) (cov (scope z) D small one) (lists (scope z) small) l.entries (λ u i. (rule_clocked (sizes z.automaton) u (all_true (lawful (sizes z.automaton)) z.automaton.rules i.0 u i.1 rules), l.fit.bounded u i)) cl l.begins l.avoids c r q
-
--- an automaton by its parts
-pub same_automaton : (m : Automaton) (n : Sizes) (start target : ℕ) (rules : List Rule) → n ≡ sizes m → start ≡ m.start → target ≡ m.target → rules ≡ m.rules → ◌≡◌ {A = Automaton} (record { states = n.states; labels = n.labels; clocks = n.clocks; start = start; target = target; rules = rules }) m
-same_automaton m n start target rules a b c d = rw (a, b, c, d)
-
--- what is judged of the automaton by its parts is judged of it
-pub judged_same : {S : Type 0} (a : Answers S) (l m : Automaton) (top : ℕ) (t : List (Entry S)) (n : ℕ) (o : Outcome (Unit {0})) → l ≡ m → o ≡ judged (claim a l top t) n → o ≡ judged (claim a m top t) n
-judged_same a l m top t n o e h = h ∙ ap (λ x. judged (claim a x top t) n) e

@@ -1,4 +1,5 @@
 use Rattle.std.specs.Prelude.{ℕ, Bool, true, false, cond, not, ◌&&◌, List, [], ◌∷◌, length, Some, None, Option, ◌==◌, nat_le, nat_lt, slice_index_or}
+use Rattle.std.specs.Option.{unwrap_or}
 use Rattle.fault.specs.Faults.{Outcome}
 use Rattle.fault.specs.Faults.Outcome.{accepted, refused}
 use Rattle.fault.specs.declared.Layer.TheVariants.{Evidence}
@@ -13,26 +14,24 @@ use Rattle.automaton.specs.declared.rule.Action.TheVariants.{Move, Test, Assign,
 use Rattle.judge.specs.Claims.{Claim, scope}
 use Rattle.judge.specs.declared.entry.Entry.{Entry}
 use Rattle.judge.specs.declared.want.Want.{Want}
-use Rattle.judge.specs.declared.want.Root.{Root}
-use Rattle.judge.specs.declared.want.Root.TheVariants.{Same, Own}
 
 -- which answer a claim gets, and at which place it is refused
 
-abbrev pub rooted : Root → ℕ → ℕ → Bool
-rooted (Same r) k q = q == r
-rooted Own k q = q == k
-
 -- the entry e at the place k is one of those that are wanted
 abbrev pub wanted : {S : Type 0} → Want → ℕ → Entry S → Bool
-wanted w k e = rooted w.root k e.root && (e.state == w.state && e.label == w.label)
+wanted w k e = e.root == unwrap_or w.root k && (e.state == w.state && e.label == w.label)
 
 -- entries in the state q, with the label and the root of e
 abbrev pub beside : {S : Type 0} → Entry S → ℕ → Want
-beside e q = record { root = Same e.root; state = q; label = e.label }
+beside e q = record { root = Some e.root; state = q; label = e.label }
 
 -- roots in the state q with the label l
 abbrev pub roots : ℕ → ℕ → Want
-roots q l = record { root = Own; state = q; label = l }
+roots q l = record { root = None; state = q; label = l }
+
+-- the place of an entry, of a rule at it and of an entry above it, each as far as there is one
+abbrev pub place : Option ℕ → Option ℕ → Option ℕ → Place
+place e r a = Table (unwrap_or e 2048) (unwrap_or r 64) (unwrap_or a 2048)
 
 -- places: an entry by itself, a rule at an entry, and a pop rule at an entry and one above it
 abbrev pub at_entry : ℕ → Place

@@ -1,48 +1,31 @@
 // Whether a table is closed, and the first place at which it is not.
 
-ghost use Rattle.std.specs.Prelude.{◌≡◌, ◌<◌, ◌≤◌, length};
-ghost use Rattle.judge.specs.Judged.{time_closed, action_closed, rule_closed, rules_fault, any_within, pushes as pushing, opens_by, opens as opening, pop_closed, return_closed, pops_fault, return_fault, returns_fault, entry_fault, closure_fault, at_entry as entry_place, at_rule as rule_place, at_return as return_place};
+ghost use Rattle.std.specs.Prelude.{◌≡◌, ◌≤◌, not, length};
+ghost use Rattle.std.specs.List.{position};
+ghost use Rattle.std.specs.Result.{result_err};
+ghost use Rattle.judge.specs.Judged.{place, time_closed, rule_closed, opens_by, opens as opening, return_closed, entry_fault, closure_fault};
 ghost use Rattle.judge.specs.Judgings.{claim_of};
-ghost use Rattle.judge.specs.Marks.{Marked, Rooted};
+ghost use Rattle.judge.specs.Marks.{Rooted};
 
 use super::entry::Entry;
 use super::judging::Judging;
-use super::marks::{mark, marked};
 use super::want::{beside, roots};
-use abstraction::{Abstraction, Interval, Listing};
+use abstraction::{Abstraction, Listing};
 use automaton::{Action, Rule};
 use fault::Place;
 
-// The place of an entry by itself.
-pub(crate) fn at_entry(k: usize) -> Place
-    ensures { result ≡ entry_place k }
-{
-    Place::Table {
-        entry: k as u64,
-        rule: 64,
-        above: 2048,
-    }
-}
+pub(crate) const MOST_ENTRIES: usize = 2048;
 
-// The place of a rule at an entry.
-fn at_rule(k: usize, n: usize) -> Place
-    ensures { result ≡ rule_place k n }
-{
-    Place::Table {
-        entry: k as u64,
-        rule: n as u64,
-        above: 2048,
-    }
-}
+const MOST_RULES: usize = 64;
 
-// The place of a pop rule at an entry and one above it.
-fn at_return(k: usize, j: usize, n: usize) -> Place
-    ensures { result ≡ return_place k j n }
+// The place of an entry, of a rule at it, and of an entry above it, each as far as there is one.
+pub(crate) fn at(entry: Option<usize>, rule: Option<usize>, above: Option<usize>) -> Place
+    ensures { result ≡ place entry rule above }
 {
     Place::Table {
-        entry: k as u64,
-        rule: n as u64,
-        above: j as u64,
+        entry: entry.unwrap_or(MOST_ENTRIES) as u64,
+        rule: rule.unwrap_or(MOST_RULES) as u64,
+        above: above.unwrap_or(MOST_ENTRIES) as u64,
     }
 }
 
@@ -50,103 +33,49 @@ impl<'m, 'a, 't, A: Abstraction> Judging<'m, 'a, 't, A> {
     fn time_closed(&self, e: Entry<A::Shape>, listing: &mut Listing<A::Shape>) -> bool
         ensures { result ≡ time_closed (claim_of A.Abstraction.answers self.now) e }
     {
-        self.abstraction.time(self.scope, e.shape, listing);
+        self.abstraction.time(self.scope(), e.shape, listing);
         self.all_taken(beside(e, e.state), listing.shapes())
     }
 
-    // Whether the shapes that e comes to by an action of kinds 0 to 3 are taken.
-    fn action_closed(
-        &self,
-        e: Entry<A::Shape>,
-        to: u64,
-        i: Interval,
-        action: Action,
-        listing: &mut Listing<A::Shape>,
-    ) -> bool
-        ensures { result ≡ action_closed (claim_of A.Abstraction.answers self.now) e to i action }
+    // Whether the shapes that e comes to by a rule of kinds 0 to 3 are taken.
+    fn rule_closed(&self, e: Entry<A::Shape>, r: Rule, listing: &mut Listing<A::Shape>) -> bool
+        ensures { result ≡ rule_closed (claim_of A.Abstraction.answers self.now) e r }
     {
-        match action {
+        if r.from as u64 != e.state {
+            return true;
+        }
+        let (scope, to) = (self.scope(), r.to as u64);
+        match r.action {
             Action::Move => self.taken(beside(e, to), e.shape),
             Action::Test(clock) => {
                 self.abstraction
-                    .test(self.scope, clock as u64, i, e.shape, listing);
+                    .test(scope, clock as u64, r.interval, e.shape, listing);
                 self.all_taken(beside(e, to), listing.shapes())
             }
             Action::Assign(clock) => {
                 self.abstraction
-                    .assign(self.scope, clock as u64, i, e.shape, listing);
+                    .assign(scope, clock as u64, r.interval, e.shape, listing);
                 self.all_taken(beside(e, to), listing.shapes())
             }
             Action::Push(label) => {
-                self.abstraction.push(self.scope, i, e.shape, listing);
+                self.abstraction.push(scope, r.interval, e.shape, listing);
                 self.all_taken(roots(to, label as u64), listing.shapes())
             }
             Action::Pop(_) => true,
         }
     }
 
-    fn rule_closed(&self, e: Entry<A::Shape>, r: Rule, listing: &mut Listing<A::Shape>) -> bool
-        ensures { result ≡ rule_closed (claim_of A.Abstraction.answers self.now) e r }
+    // The first rule of kinds 0 to 3 by which e is not closed.
+    fn open_rule(&self, e: Entry<A::Shape>, listing: &mut Listing<A::Shape>) -> Option<usize>
+        ensures { result ≡ position (λ r. not (rule_closed (claim_of A.Abstraction.answers self.now) e r)) (claim_of A.Abstraction.answers self.now).automaton.rules }
     {
-        if r.from as u64 == e.state {
-            self.action_closed(e, r.to as u64, r.interval, r.action, listing)
-        } else {
-            true
-        }
+        self.model
+            .rules()
+            .iter()
+            .position(|r| !self.rule_closed(e, *r, listing))
     }
 
-    // The first rule of kinds 0 to 3 by which the entry at k is not closed.
-    fn rules_fault(
-        &self,
-        k: usize,
-        e: Entry<A::Shape>,
-        listing: &mut Listing<A::Shape>,
-    ) -> Option<Place>
-        ensures { result ≡ rules_fault (claim_of A.Abstraction.answers self.now) k e }
-    {
-        for (n, r) in self.rules.iter().enumerate() {
-            if !self.rule_closed(e, *r, listing) {
-                return Some(at_rule(k, n));
-            }
-        }
-        None
-    }
-
-    fn any_within(&self, shapes: &[A::Shape], o: A::Shape) -> bool
-        ensures { result ≡ any_within (claim_of A.Abstraction.answers self.now) o shapes.now }
-    {
-        for s in shapes {
-            if self.abstraction.within(self.scope, *s, o) {
-                return true;
-            }
-        }
-        false
-    }
-
-    // Whether a push from e to the state comes to o.
-    fn pushes(
-        &self,
-        e: Entry<A::Shape>,
-        o: Entry<A::Shape>,
-        to: u64,
-        i: Interval,
-        action: Action,
-        listing: &mut Listing<A::Shape>,
-    ) -> bool
-        ensures { result ≡ pushing (claim_of A.Abstraction.answers self.now) e o to i action }
-    {
-        match action {
-            Action::Push(label) => {
-                if to != o.state || label as u64 != o.label {
-                    return false;
-                }
-                self.abstraction.push(self.scope, i, e.shape, listing);
-                self.any_within(listing.shapes(), o.shape)
-            }
-            _ => false,
-        }
-    }
-
+    // Whether the rule is a push from e that comes to o.
     fn opens_by(
         &self,
         e: Entry<A::Shape>,
@@ -156,10 +85,18 @@ impl<'m, 'a, 't, A: Abstraction> Judging<'m, 'a, 't, A> {
     ) -> bool
         ensures { result ≡ opens_by (claim_of A.Abstraction.answers self.now) e o r }
     {
-        if r.from as u64 == e.state {
-            self.pushes(e, o, r.to as u64, r.interval, r.action, listing)
-        } else {
-            false
+        match r.action {
+            Action::Push(label)
+                if r.from as u64 == e.state && r.to as u64 == o.state && label as u64 == o.label =>
+                {
+                    self.abstraction
+                        .push(self.scope(), r.interval, e.shape, listing);
+                    let shapes = listing.shapes();
+                    shapes
+                        .iter()
+                        .any(|s| self.abstraction.within(self.scope(), *s, o.shape))
+                }
+            _ => false,
         }
     }
 
@@ -167,50 +104,13 @@ impl<'m, 'a, 't, A: Abstraction> Judging<'m, 'a, 't, A> {
     fn opens(&self, e: Entry<A::Shape>, o: Entry<A::Shape>, listing: &mut Listing<A::Shape>) -> bool
         ensures { result ≡ opening (claim_of A.Abstraction.answers self.now) e o }
     {
-        for r in self.rules {
-            if self.opens_by(e, o, *r, listing) {
-                return true;
-            }
-        }
-        false
+        self.model
+            .rules()
+            .iter()
+            .any(|r| self.opens_by(e, o, *r, listing))
     }
 
-    // Marks the places of the entries that e opens.
-    fn mark_opened(&self, e: Entry<A::Shape>, scratch: &mut [u8], listing: &mut Listing<A::Shape>)
-        requires { length self.now.table.now ≤ length scratch.old }
-        ensures { Marked (claim_of A.Abstraction.answers self.now) e (length self.now.table.now) scratch.new }
-    {
-        for (k, o) in self.table.iter().enumerate() {
-            let opened = self.opens(e, *o, listing);
-            mark(scratch, k, opened);
-        }
-    }
-
-    // Whether the shapes that a pop from u leaves on e are taken.
-    fn pop_closed(
-        &self,
-        e: Entry<A::Shape>,
-        u: Entry<A::Shape>,
-        to: u64,
-        i: Interval,
-        action: Action,
-        listing: &mut Listing<A::Shape>,
-    ) -> bool
-        ensures { result ≡ pop_closed (claim_of A.Abstraction.answers self.now) e u to i action }
-    {
-        match action {
-            Action::Pop(label) => {
-                if label as u64 != u.label {
-                    return true;
-                }
-                self.abstraction
-                    .pop(self.scope, i, e.shape, u.shape, listing);
-                self.all_taken(beside(e, to), listing.shapes())
-            }
-            _ => true,
-        }
-    }
-
+    // Whether the shapes that a pop from u by the rule leaves on e are taken.
     fn return_closed(
         &self,
         e: Entry<A::Shape>,
@@ -220,109 +120,73 @@ impl<'m, 'a, 't, A: Abstraction> Judging<'m, 'a, 't, A> {
     ) -> bool
         ensures { result ≡ return_closed (claim_of A.Abstraction.answers self.now) e u r }
     {
-        if r.from as u64 == u.state {
-            self.pop_closed(e, u, r.to as u64, r.interval, r.action, listing)
-        } else {
-            true
+        match r.action {
+            Action::Pop(label) if r.from as u64 == u.state && label as u64 == u.label => {
+                self.abstraction
+                    .pop(self.scope(), r.interval, e.shape, u.shape, listing);
+                self.all_taken(beside(e, r.to as u64), listing.shapes())
+            }
+            _ => true,
         }
     }
 
-    // The first pop rule by which the entry at k is not closed under the one at j.
-    fn pops_fault(
+    // The first pop rule by which e is not closed under u.
+    fn open_pop(
         &self,
-        k: usize,
         e: Entry<A::Shape>,
-        j: usize,
         u: Entry<A::Shape>,
         listing: &mut Listing<A::Shape>,
-    ) -> Option<Place>
-        ensures { result ≡ pops_fault (claim_of A.Abstraction.answers self.now) k e j u }
+    ) -> Option<usize>
+        ensures { result ≡ position (λ r. not (return_closed (claim_of A.Abstraction.answers self.now) e u r)) (claim_of A.Abstraction.answers self.now).automaton.rules }
     {
-        for (n, r) in self.rules.iter().enumerate() {
-            if !self.return_closed(e, u, *r, listing) {
-                return Some(at_return(k, j, n));
-            }
-        }
-        None
+        self.model
+            .rules()
+            .iter()
+            .position(|r| !self.return_closed(e, u, *r, listing))
     }
 
-    // The same where e opens the root of the entry at j, as the marks say.
-    fn return_fault(
+    // Whether the entry at k is closed, or the first place at which it is not. Pops are looked at
+    // under each entry whose root e opens; the marks tell which entries those are.
+    fn entry_closed(
         &self,
         k: usize,
         e: Entry<A::Shape>,
-        j: usize,
-        u: Entry<A::Shape>,
-        scratch: &[u8],
+        marks: &mut [u8],
         listing: &mut Listing<A::Shape>,
-    ) -> Option<Place>
-        requires { (u.root < length self.now.table.now) × ((length self.now.table.now ≤ length scratch.now) × (Marked (claim_of A.Abstraction.answers self.now) e (length self.now.table.now) scratch.now)) }
-        ensures { result ≡ return_fault (claim_of A.Abstraction.answers self.now) k e j u }
-    {
-        if marked(scratch, u.root as usize) {
-            self.pops_fault(k, e, j, u, listing)
-        } else {
-            None
-        }
-    }
-
-    // The first place at which the entry at k is not closed under a pop.
-    fn returns_fault(
-        &self,
-        k: usize,
-        e: Entry<A::Shape>,
-        scratch: &[u8],
-        listing: &mut Listing<A::Shape>,
-    ) -> Option<Place>
-        requires { (Rooted self.now.table.now) × ((length self.now.table.now ≤ length scratch.now) × (Marked (claim_of A.Abstraction.answers self.now) e (length self.now.table.now) scratch.now)) }
-        ensures { result ≡ returns_fault (claim_of A.Abstraction.answers self.now) k e }
-    {
-        for (j, u) in self.table.iter().enumerate() {
-            let fault = self.return_fault(k, e, j, *u, scratch, listing);
-            if fault.is_some() {
-                return fault;
-            }
-        }
-        None
-    }
-
-    // The first place at which the entry at k is not closed.
-    fn entry_fault(
-        &self,
-        k: usize,
-        e: Entry<A::Shape>,
-        scratch: &mut [u8],
-        listing: &mut Listing<A::Shape>,
-    ) -> Option<Place>
-        requires { (Rooted self.now.table.now) × (length self.now.table.now ≤ length scratch.old) }
-        ensures { result ≡ entry_fault (claim_of A.Abstraction.answers self.now) k e }
+    ) -> Result<(), Place>
+        requires { (Rooted self.now.table.now) × (length self.now.table.now ≤ length marks.old) }
+        ensures { result_err result ≡ entry_fault (claim_of A.Abstraction.answers self.now) k e }
     {
         if !self.time_closed(e, listing) {
-            return Some(at_entry(k));
+            return Err(at(Some(k), None, None));
         }
-        let fault = self.rules_fault(k, e, listing);
-        if fault.is_some() {
-            return fault;
+        if let Some(n) = self.open_rule(e, listing) {
+            return Err(at(Some(k), Some(n), None));
         }
-        self.mark_opened(e, scratch, listing);
-        self.returns_fault(k, e, scratch, listing)
-    }
-
-    // The first place at which the table is not closed.
-    pub(crate) fn closure_fault(
-        &self,
-        scratch: &mut [u8],
-        listing: &mut Listing<A::Shape>,
-    ) -> Option<Place>
-        requires { (Rooted self.now.table.now) × (length self.now.table.now ≤ length scratch.old) }
-        ensures { result ≡ closure_fault (claim_of A.Abstraction.answers self.now) }
-    {
-        for (k, e) in self.table.iter().enumerate() {
-            let fault = self.entry_fault(k, *e, scratch, listing);
-            if fault.is_some() {
-                return fault;
+        for (i, o) in self.table.iter().enumerate() {
+            marks[i] = self.opens(e, *o, listing) as u8;
+        }
+        for (j, u) in self.table.iter().enumerate() {
+            let opened = marks[u.root as usize] == 1;
+            if opened && let Some(n) = self.open_pop(e, *u, listing) {
+                return Err(at(Some(k), Some(n), Some(j)));
             }
         }
-        None
+        Ok(())
+    }
+
+    // Whether the table is closed, or the first place at which it is not.
+    pub(crate) fn closed(
+        &self,
+        marks: &mut [u8],
+        listing: &mut Listing<A::Shape>,
+    ) -> Result<(), Place>
+        requires { (Rooted self.now.table.now) × (length self.now.table.now ≤ length marks.old) }
+        ensures { result_err result ≡ closure_fault (claim_of A.Abstraction.answers self.now) }
+    {
+        for (k, e) in self.table.iter().enumerate() {
+            self.entry_closed(k, *e, marks, listing)?;
+        }
+        Ok(())
     }
 }

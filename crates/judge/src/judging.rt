@@ -1,44 +1,49 @@
 // A claim that a table keeps the target from all runs of a model, and how it is judged.
 
 ghost use Rattle.std.specs.Prelude.{◌≡◌};
+ghost use Rattle.judge.specs.Claims.{scope as scope_of};
 ghost use Rattle.judge.specs.Judged.{takes as taking, taken as being_taken, all_taken};
 ghost use Rattle.judge.specs.Judgings.{claim_of};
 
 use super::entry::Entry;
 use super::want::Want;
 use abstraction::{Abstraction, Scope};
-use automaton::Rule;
+use automaton::Model;
 
-// A model, an abstraction with what it is asked for, and a table.
+// A model, an abstraction with the bound up to which it is asked, and a table.
 #[derive(Drop)]
 pub(crate) struct Judging<'m, 'a, 't, A: Abstraction> {
+    pub(crate) model: &'m Model,
     pub(crate) abstraction: &'a A,
-    pub(crate) states: u64,
-    pub(crate) labels: u64,
-    pub(crate) start: u64,
-    pub(crate) target: u64,
-    pub(crate) scope: Scope,
-    pub(crate) rules: &'m [Rule],
+    pub(crate) top: u64,
     pub(crate) table: &'t [Entry<A::Shape>],
 }
 
 impl<'m, 'a, 't, A: Abstraction> Judging<'m, 'a, 't, A> {
+    // What the abstraction is asked for.
+    pub(crate) fn scope(&self) -> Scope
+        ensures { result ≡ scope_of (claim_of A.Abstraction.answers self.now) }
+    {
+        Scope {
+            clocks: self.model.sizes().clocks as u64,
+            top: self.top,
+        }
+    }
+
     fn takes(&self, w: Want, s: A::Shape, k: usize, e: &Entry<A::Shape>) -> bool
         ensures { result ≡ taking (claim_of A.Abstraction.answers self.now) w s k e.now }
     {
-        w.fits(k, e) && self.abstraction.within(self.scope, s, e.shape)
+        w.fits(k, e) && self.abstraction.within(self.scope(), s, e.shape)
     }
 
     // Whether some wanted entry takes the shape.
     pub(crate) fn taken(&self, w: Want, s: A::Shape) -> bool
         ensures { result ≡ being_taken (claim_of A.Abstraction.answers self.now) w s }
     {
-        for (k, e) in self.table.iter().enumerate() {
-            if self.takes(w, s, k, e) {
-                return true;
-            }
-        }
-        false
+        self.table
+            .iter()
+            .enumerate()
+            .any(|(k, e)| self.takes(w, s, k, e))
     }
 
     // Whether each of the shapes is taken by some wanted entry.

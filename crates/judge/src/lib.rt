@@ -10,7 +10,7 @@ ghost use Rattle.judge.specs.Claims.{claim};
 ghost use Rattle.judge.specs.Judged.{judged};
 ghost use Rattle.judge.specs.Law.{Law, Sound};
 
-use abstraction::{Abstraction, Listing, Scope};
+use abstraction::{Abstraction, Listing};
 use automaton::Model;
 use fault::Fault;
 
@@ -18,7 +18,6 @@ mod closure;
 mod entry;
 mod judging;
 mod lawful;
-mod marks;
 mod want;
 
 pub use entry::Entry;
@@ -42,18 +41,10 @@ pub fn judge<A: Abstraction>(
     ensures room { length scratch.new ≡ length scratch.old }
     ensures emptied { shapes_of listing.new ≡ [] }
 {
-    let sizes = model.sizes();
     let judging = Judging {
+        model,
         abstraction,
-        states: sizes.states as u64,
-        labels: sizes.labels as u64,
-        start: model.start() as u64,
-        target: model.target() as u64,
-        scope: Scope {
-            clocks: sizes.clocks as u64,
-            top,
-        },
-        rules: model.rules(),
+        top,
         table,
     };
     let verdict = judging.verdict(scratch, listing);

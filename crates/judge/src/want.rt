@@ -5,16 +5,10 @@ ghost use Rattle.judge.specs.Judged.{wanted, beside as besides, roots as rooting
 
 use super::entry::Entry;
 
-// The root that is asked for: a given one, or the entry itself.
-#[derive(Clone, Copy)]
-pub(crate) enum Root {
-    Same(u64),
-    Own,
-}
-
+// Entries in the state, with the label and the root; without a root, each has to be its own.
 #[derive(Clone, Copy)]
 pub(crate) struct Want {
-    pub(crate) root: Root,
+    pub(crate) root: Option<u64>,
     pub(crate) state: u64,
     pub(crate) label: u64,
 }
@@ -24,7 +18,7 @@ pub(crate) fn beside<S: Copy>(e: Entry<S>, state: u64) -> Want
     ensures { result ≡ besides e state }
 {
     Want {
-        root: Root::Same(e.root),
+        root: Some(e.root),
         state,
         label: e.label,
     }
@@ -35,7 +29,7 @@ pub(crate) fn roots(state: u64, label: u64) -> Want
     ensures { result ≡ rooting state label }
 {
     Want {
-        root: Root::Own,
+        root: None,
         state,
         label,
     }
@@ -46,10 +40,6 @@ impl Want {
     pub(crate) fn fits<S: Copy>(self, k: usize, e: &Entry<S>) -> bool
         ensures { result ≡ wanted self k e.now }
     {
-        let rooted = match self.root {
-            Root::Same(root) => e.root == root,
-            Root::Own => e.root == k as u64,
-        };
-        rooted && e.state == self.state && e.label == self.label
+        e.root == self.root.unwrap_or(k as u64) && e.state == self.state && e.label == self.label
     }
 }

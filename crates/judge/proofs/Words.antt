@@ -1,0 +1,38 @@
+use Rattle.std.proofs.Common.{◌≡◌, ℕ, suc, ◌+◌, Bool, true, eqb, ◌&&◌, ◌||◌, List, [], ◌∷◌, refl, sym, ap, ◌∙◌, add-one}
+use Rattle.std.specs.List.{list_all, list_any, enumerate_from}
+use Rattle.abstraction.specs.Lists.{all, any}
+use Rattle.automaton.specs.declared.rule.Rule.{Rule}
+use Rattle.automaton.specs.declared.rule.Action.TheVariants.{Push}
+use Rattle.judge.specs.Claims.{Claim, scope}
+use Rattle.judge.specs.Judged.{opens_by}
+use Rattle.judge.specs.declared.entry.Entry.{Entry}
+
+-- the words of the specs are those that std's searches answer by
+
+module _ {X : Type 0} where
+  all_list : (p : X → Bool) (xs : List X) → list_all p xs ≡ all p xs
+  all_list p [] = refl
+  all_list p (x ∷ xs) = ap (λ b. p x && b) (all_list p xs)
+
+  any_list : (p : X → Bool) (k : ℕ) (xs : List X) → list_any p xs ≡ any (λ _ x. p x) k xs
+  any_list p k [] = refl
+  any_list p k (x ∷ xs) = ap (λ b. p x || b) (any_list p (suc k) xs)
+
+  any_counted : (p : ℕ → X → Bool) (k : ℕ) (xs : List X) → list_any (λ i. p i.0 i.1) (enumerate_from k xs) ≡ any p k xs
+  any_counted p k [] = refl
+  any_counted p k (x ∷ xs) =
+      ap (λ b. p k x || b) (ap (λ n. list_any (λ i. p i.0 i.1) (enumerate_from n xs)) (add-one k) ∙ any_counted p (suc k) xs)
+
+  pub all_from_list : (p : X → Bool) (xs : List X) (r : Bool) → r ≡ list_all p xs → r ≡ all p xs
+  all_from_list p xs r h = h ∙ all_list p xs
+
+  pub any_from_list : (p : X → Bool) (k : ℕ) (xs : List X) (r : Bool) → r ≡ list_any p xs → r ≡ any (λ _ x. p x) k xs
+  any_from_list p k xs r h = h ∙ any_list p k xs
+
+  pub any_from_counted : (p : ℕ → X → Bool) (k : ℕ) (xs : List X) (r : Bool) → r ≡ list_any (λ i. p i.0 i.1) (enumerate_from k xs) → r ≡ any p k xs
+  any_from_counted p k xs r h = h ∙ any_counted p k xs
+
+-- a push from e by the rule r comes to o as its list says
+pub pushed_by : {S : Type 0} (z : Claim S) (e o : Entry S) (r : Rule) (l : ℕ) (b : Bool) → r.action ≡ Push l → eqb r.from e.state ≡ true → eqb r.to o.state ≡ true → eqb l o.label ≡ true → b ≡ list_any (λ s. z.answers.within (scope z) s o.shape) (z.answers.push (scope z) r.interval e.shape) → b ≡ opens_by z e o r
+pushed_by z e o r l b is from to label h =
+    rw (from, is, to, label) (any_from_list (λ s. z.answers.within (scope z) s o.shape) 0 _ b h)
