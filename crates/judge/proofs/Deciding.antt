@@ -1,27 +1,12 @@
-use Rattle.std.proofs.Common.{◌≡◌, ℕ, zero, suc, ◌+◌, ◌<◌, ◌≤◌, Bool, true, false, cond, not, ◌&&◌, eqb, ltb, leb, ◌⊎◌, List, [], ◌∷◌, Some, None, Decides, Option, sym, refl, ap, ◌∙◌, inl, inr, not-suc-le-zero, add-zero, arith}
-use Rattle.std.proofs.lemmas.Bool.{and_parts, and_from, or_left, or_right, cases_Bool, cond-true, cond-false, eqb-true, eq-eqb, leb-true, le-leb, ltb-true, lt-ltb, not-true, not_from_false, both_ways, ne_eqb, eqb-false}
+use Rattle.std.proofs.Common.{◌≡◌, ℕ, zero, suc, ◌+◌, ◌<◌, ◌≤◌, Bool, true, false, cond, eqb, leb, ◌⊎◌, List, [], ◌∷◌, Some, None, Decides, Option, sym, refl, ap, ◌∙◌, inl, inr, not-suc-le-zero, add-zero, arith}
+use Rattle.std.proofs.lemmas.Bool.{and_from, or_left, or_right, cases_Bool, cond-true, cond-false, eqb-true, eq-eqb, leb-true, le-leb}
 use Rattle.abstraction.specs.Lists.{all, any, or_else, first, unless, Sits, In}
 use Rattle.abstraction.proofs.Found.{all_true, sits_next}
 
 -- tests that decide statements
 
-pub both : {P Q : Type 0} (a b : Bool) → Decides a P → Decides b Q → Decides (a && b) (P × Q)
-both a b p q = (λ h. let x = and_parts a b h in (p.0 x.0, q.0 x.1), λ x. and_from a b (p.1 x.0) (q.1 x.1))
-
-pub as_well : {P Q : Type 0} (a : Bool) → Decides a P → (P → Q) → (Q → P) → Decides a Q
-as_well a d f g = (λ h. f (d.0 h), λ q. d.1 (g q))
-
-pub same : (a b : ℕ) → Decides (eqb a b) (a ≡ b)
-same a b = (eqb-true a b, eq-eqb a b)
-
 pub at_most : (a b : ℕ) → Decides (leb a b) (a ≤ b)
 at_most a b = (leb-true a b, le-leb a b)
-
-pub below : (a b : ℕ) → Decides (ltb a b) (a < b)
-below a b = (ltb-true a b, lt-ltb a b)
-
-pub differ : (a b : ℕ) → Decides (not (eqb a b)) (a ≡ b → ⊥)
-differ a b = (λ h. eqb-false a b (not-true _ h), λ f. not_from_false _ (ne_eqb a b f))
 
 -- a statement that is asked for only where two numbers agree
 pub where_same : {P : Type 0} (a b : ℕ) (c : Bool) → Decides c P → Decides (cond (eqb a b) c true) (a ≡ b → P)
@@ -33,10 +18,7 @@ where_same a b c d = (
   ],
 )
 
-pub not_so : {P : Type 0} (b : Bool) → Decides b P → b ≡ false → P → ⊥
-not_so b d h p = both_ways b h (d.1 p)
-
-pub in_next : {X : Type 0} (y x : X) (xs : List X) → In xs x → In (y ∷ xs) x
+in_next : {X : Type 0} (y x : X) (xs : List X) → In xs x → In (y ∷ xs) x
 in_next y x xs (k, s) = (suc k, (omega (arith, s.0), s.1))
 
 all_from : {X : Type 0} (p : X → Bool) (xs : List X) → ((x : X) → In xs x → p x ≡ true) → all p xs ≡ true
@@ -56,26 +38,13 @@ any_at p b (y ∷ xs) (suc k) x s h =
 
 -- the search for the first
 
-pub unless_from : {Y : Type 0} (b : Bool) (y : Y) → b ≡ true → unless b y ≡ None
-unless_from true y h = refl
-unless_from false y h = absurd (both_ways false refl h)
-
 pub unless_some : {Y : Type 0} (b : Bool) (y w : Y) → unless b y ≡ Some w → (b ≡ false) × (w ≡ y)
 unless_some true y w h = absurd (let x : ◌≡◌ {A = ℕ} 0 1 = cc in omega arith)
 unless_some false y w h = (refl, cc)
 
-pub or_none_from : {Y : Type 0} (a b : Option Y) → a ≡ None → b ≡ None → or_else a b ≡ None
-or_none_from None b h k = k
-or_none_from (Some y) b h k = absurd (let x : ◌≡◌ {A = ℕ} 0 1 = cc in omega arith)
-
 pub or_some : {Y : Type 0} (a b : Option Y) (y : Y) → or_else a b ≡ Some y → (a ≡ Some y) ⊎ ((a ≡ None) × (b ≡ Some y))
 or_some None b y h = inr (refl, h)
 or_some (Some x) b y h = inl h
-
-pub first_none_from : {X Y : Type 0} (p : ℕ → X → Option Y) (b : ℕ) (xs : List X) → ((n : ℕ) (x : X) → In xs x → p n x ≡ None) → first p b xs ≡ None
-first_none_from p b [] h = refl
-first_none_from p b (x ∷ xs) h =
-    or_none_from (p b x) _ (h b x (0, (omega arith, λ d. refl))) (first_none_from p (suc b) xs (λ n y i. h n y (in_next x y xs i)))
 
 -- y was found at the place k, and nothing before it
 pub record Firstly {X Y : Type 0} (p : ℕ → X → Option Y) (b : ℕ) (xs : List X) (y : Y) : Type 0 where

@@ -1,5 +1,6 @@
 use Rattle.std.proofs.Common.{◌≡◌, ℕ, ◌+◌, Bool, true, cond, get_or, Some, None, Decides, sym, ap, ◌∙◌, inl, inr, zero-add, arith}
 use Rattle.std.proofs.lemmas.Bool.{cases_Bool, cond-true, cond-false, both_ways}
+use Rattle.std.proofs.lemmas.Bool.Decides.{not_from_Decides}
 use Rattle.fault.specs.declared.Place.{Place}
 use Rattle.abstraction.specs.Lists.{or_else, unless, fault, Sits, In}
 use Rattle.abstraction.proofs.Found.{or_none, unless_none, first_none}
@@ -10,7 +11,7 @@ use Rattle.judge.specs.Closed.{ClosedTime, Closed, LawfulEntry}
 use Rattle.judge.specs.Law.{Spot, Earlier, named, ClosedAt, FirstOpen, FirstWithout}
 use Rattle.judge.specs.Law.Spot.{by_time, by_rule, by_return}
 use Rattle.judge.specs.declared.entry.Entry.{Entry}
-use Rattle.judge.proofs.Deciding.{not_so, unless_from, unless_some, or_none_from, or_some, first_none_from, Firstly, first_some}
+use Rattle.judge.proofs.Deciding.{unless_some, or_some, Firstly, first_some}
 use Rattle.judge.proofs.Reflect.{timing, ruling, returning}
 
 -- the first place that a search finds is the first at fault
@@ -30,7 +31,7 @@ first_without z t P d p h =
       entry = f.item;
       sits = f.sits;
       names = u.1 ∙ ap at_entry (zero-add f.place);
-      fails = not_so _ (d f.item) u.0;
+      fails = not_from_Decides _ (d f.item) u.0;
       earlier = λ j e l s. (d e).0 (unless_none (t e) _ (f.before j e l s).1);
     }
 
@@ -44,13 +45,6 @@ module _ {S : Type 0} (z : Claim S) (lawful : (e : Entry S) → In z.table e →
   return_none k e n u h r i = elim (cases_Bool (opens z e (get_or z.table u.root e))) [
     | inl t ↦
         cond-true _ _ _ t ∙ unless_none (return_closed z e u r) _ (first_none _ 0 z.automaton.rules i.0 r i.1 (sym (cond-true _ _ _ t) ∙ h)).1
-    | inr t ↦ cond-false _ _ _ t
-  ]
-
-  return_none_from : (k : ℕ) (e : Entry S) (n : ℕ) (u : Entry S) → ((r : Rule) → In z.automaton.rules r → cond (opens z e (get_or z.table u.root e)) (return_closed z e u r) true ≡ true) → return_fault z k e n u ≡ None
-  return_none_from k e n u f = elim (cases_Bool (opens z e (get_or z.table u.root e))) [
-    | inl t ↦
-        cond-true _ _ _ t ∙ first_none_from _ 0 z.automaton.rules (λ m r i. unless_from (return_closed z e u r) _ (sym (cond-true _ _ _ t) ∙ f r i))
     | inr t ↦ cond-false _ _ _ t
   ]
 
@@ -72,10 +66,6 @@ module _ {S : Type 0} (z : Claim S) (lawful : (e : Entry S) → In z.table e →
   entry_none k e h (by_return j n) =
       returns_none k e (or_none (rules_fault z k e) _ (or_none (unless (time_closed z e) (at_entry k)) _ h).1).1 j n
 
-  entry_none_from : (k : ℕ) (e : Entry S) → ((s : Spot) → ClosedAt z e s) → entry_fault z k e ≡ None
-  entry_none_from k e c =
-      or_none_from _ _ (unless_from _ _ ((timing z e).1 (c by_time))) (or_none_from _ _ (first_none_from _ 0 z.automaton.rules (λ n r i. unless_from (rule_closed z e r) _ ((ruling z e r).1 (c (by_rule i.0) r i.1)))) (first_none_from (return_fault z k e) 0 z.table (λ n u i. return_none_from k e n u (λ r o. (returning z e u r (lawful u i)).1 (c (by_return i.0 o.0) u i.1 r o.1)))))
-
   -- the first spot at which the entry at k is not closed
   record Spotted (k : ℕ) (e : Entry S) (p : Place) : Type 0 where
     spot : Spot
@@ -89,7 +79,7 @@ module _ {S : Type 0} (z : Claim S) (lawful : (e : Entry S) → In z.table e →
       record {
         spot = by_time;
         names = u.1;
-        fails = not_so _ (timing z e) u.0;
+        fails = not_from_Decides _ (timing z e) u.0;
         earlier = λ s l. absurd (nothing_before s l);
       }
 
@@ -105,7 +95,7 @@ module _ {S : Type 0} (z : Claim S) (lawful : (e : Entry S) → In z.table e →
       record {
         spot = by_rule f.place;
         names = u.1 ∙ ap (at_rule k) (zero-add f.place);
-        fails = λ c. not_so _ (ruling z e f.item) u.0 (c f.item f.sits);
+        fails = λ c. not_from_Decides _ (ruling z e f.item) u.0 (c f.item f.sits);
         earlier = before_rule k e p t f;
       }
 

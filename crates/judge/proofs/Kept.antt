@@ -1,5 +1,6 @@
-use Rattle.std.proofs.Common.{◌≡◌, ℕ, ◌+◌, Bool, true, false, cond, ◌||◌, List, [], ◌∷◌, length, Some, None, Option, Iter, Bor, sym, refl, ap, ◌∙◌, subst, arith, add-zero}
+use Rattle.std.proofs.Common.{◌≡◌, ℕ, ◌+◌, Bool, true, false, ◌||◌, List, [], ◌∷◌, length, Some, None, Option, Iter, Bor, sym, ap, ◌∙◌, subst, arith, add-zero}
 use Rattle.std.proofs.lemmas.Bool.{cond-true, cond-false, or_left}
+use Rattle.std.proofs.lemmas.List.{nil_from_length}
 use Rattle.std.proofs.iter.Yields.{fronts}
 use Rattle.std.proofs.lemmas.Iterator.Adapters.{position_from-zero}
 use Rattle.std.specs.Fn.{Called}
@@ -12,12 +13,8 @@ use denote.Param.Members.{Mut}
 
 module _ {A F : Type 0} {g : Mut F (Bor A × Unit {0}) Bool} (test : A → Bool) (keeps : F → Type 0)
     (call : (f : F) (x : Bor A) (b : Bool) (q : F) → keeps f → Called g f (x, tt) b q → (b ≡ test x.now) × keeps q) where
-  empty : (ys : List A) → length ys ≡ 0 → ys ≡ []
-  empty [] h = refl
-  empty (y ∷ ys) h = absurd (omega arith)
-
   any_end : (u t : Iter A) (o : Option (Bor A)) (j : F) (r : Bool) → keeps j → fronts t o u → MatchOption o (r ≡ false) (λ x. (r ≡ true) × ((h : F) × Called g j (x, tt) true h)) → r ≡ list_any test t.rest.now
-  any_end u t None j r i n m = m ∙ ap (list_any test) (sym (empty _ n.0))
+  any_end u t None j r i n m = m ∙ ap (list_any test) (sym (nil_from_length _ n.0))
   any_end u t (Some x) j r i n m =
       m.0 ∙ sym (ap (list_any test) n ∙ or_left (test x.now) _ (sym (call j x true m.1.0 i m.1.1).0))
 
@@ -34,7 +31,7 @@ module _ {A F : Type 0} {g : Mut F (Bor A × Unit {0}) Bool} (test : A → Bool)
       any_runs u s y.0 xs o f j r i y.1 y.2 c m ∙ ap (list_any test) e
 
   position_end : (n m : ℕ) (u t : Iter A) (o : Option (Bor A)) (j : F) (r : Option ℕ) → m ≡ n → keeps j → fronts t o u → MatchOption o (r ≡ None) (λ x. (r ≡ Some m) × ((h : F) × Called g j (x, tt) true h)) → r ≡ position_from test n t.rest.now
-  position_end n m u t None j r l i y a = a ∙ ap (position_from test n) (sym (empty _ y.0))
+  position_end n m u t None j r l i y a = a ∙ ap (position_from test n) (sym (nil_from_length _ y.0))
   position_end n m u t (Some x) j r l i y a =
       a.0 ∙ ap Some l ∙ sym (ap (position_from test n) y ∙ cond-true _ _ _ (sym (call j x true a.1.0 i a.1.1).0))
 

@@ -1,6 +1,7 @@
 use Rattle.std.proofs.Common.{◌≡◌, ℕ, ◌+◌, Bool, true, cond, ◌&&◌, eqb, List, [], ◌∷◌, length, get_or, Decides, sym, refl, ap, ◌∙◌, inl, inr, arith}
 use Rattle.std.proofs.lemmas.List.{get_or_default}
 use Rattle.std.proofs.lemmas.Bool.{and_parts, and_from, cases_Bool, cond-true, cond-false, eqb-true, eq-eqb, false≢true}
+use Rattle.std.proofs.lemmas.Bool.Decides.{Decides-and, Decides-eqb, Decides-like, Decides-ltb}
 use Rattle.abstraction.specs.Lists.{Sits, In}
 use Rattle.abstraction.specs.declared.interval.Interval.{Interval}
 use Rattle.abstraction.proofs.Found.{any_true}
@@ -12,7 +13,7 @@ use Rattle.judge.specs.Claims.{Claim, scope}
 use Rattle.judge.specs.Judged.{beside, roots, wanted, takes, taken, all_taken, time_closed, action_closed, rule_closed, pushes, opens_by, opens, pop_closed, return_closed, action_fits, sizes_fit, entry_lawful, begins, table_begins}
 use Rattle.judge.specs.Closed.{Within, RootAt, Taken, TakenByRoot, Opens, ClosedTime, ClosedAction, ClosedRule, ClosedReturn, Bounded, Fit, LawfulEntry, Begins}
 use Rattle.judge.specs.declared.entry.Entry.{Entry}
-use Rattle.judge.proofs.Deciding.{both, as_well, same, at_most, below, where_same, each, any_at}
+use Rattle.judge.proofs.Deciding.{at_most, where_same, each, any_at}
 
 -- the tests of a judgment decide the statements on tables
 
@@ -181,13 +182,14 @@ module _ {S : Type 0} (z : Claim S) where
 
   pub fitting : (n : ℕ) → Decides (sizes_fit z n) (Fit z n)
   fitting n =
-      as_well _ (both _ _ (both _ _ (both _ _ (at_most 1 (length z.table)) (at_most (length z.table) 2048)) (at_most (length z.table) n)) (both _ _ (at_most z.top 15) (each (λ r. action_fits z r.interval r.action) (λ r. Bounded z r.interval r.action) z.automaton.rules (λ r. bounding r.interval r.action))))
+      Decides-like _
       (λ x. record { some = x.0.0.0; few = x.0.0.1; room = x.0.1; small = x.1.0; bounded = x.1.1 })
       (λ f. (((f.some, f.few), f.room), (f.small, f.bounded)))
+      (Decides-and _ _ (Decides-and _ _ (Decides-and _ _ (at_most 1 (length z.table)) (at_most (length z.table) 2048)) (at_most (length z.table) n)) (Decides-and _ _ (at_most z.top 15) (each (λ r. action_fits z r.interval r.action) (λ r. Bounded z r.interval r.action) z.automaton.rules (λ r. bounding r.interval r.action))))
 
   pub allowing : (e : Entry S) → Decides (entry_lawful z e) (LawfulEntry z e)
   allowing e =
-      as_well _ (both _ _ (below e.root (length z.table)) (both _ _ (both _ _ (same (get_or z.table e.root e).root e.root) (same (get_or z.table e.root e).label e.label)) (both _ _ (both _ _ (below e.state z.automaton.states) (at_most e.label z.automaton.labels)) (λ h. h, λ h. h))))
+      Decides-like _
       (λ x. record {
         owner = get_or z.table e.root e;
         rooted = ((x.0, λ d. get_or_default z.table e.root d e x.0), x.1.0.0);
@@ -197,6 +199,7 @@ module _ {S : Type 0} (z : Claim S) where
         shape = x.1.1.1;
       })
       (λ l. let o = l.rooted.0.1 e in (l.rooted.0.0, ((ap (λ v. v.root) o ∙ l.rooted.1, ap (λ v. v.label) o ∙ l.label), ((l.state, l.labels), l.shape))))
+      (Decides-and _ _ (Decides-ltb e.root (length z.table)) (Decides-and _ _ (Decides-and _ _ (Decides-eqb (get_or z.table e.root e).root e.root) (Decides-eqb (get_or z.table e.root e).label e.label)) (Decides-and _ _ (Decides-and _ _ (Decides-ltb e.state z.automaton.states) (at_most e.label z.automaton.labels)) (λ h. h, λ h. h))))
 
   begin_true : (es : List (Entry S)) → table_begins z es ≡ true → (e : Entry S) × Sits es 0 e × (begins z e ≡ true)
   begin_true [] h = absurd (false≢true h)
@@ -208,7 +211,7 @@ module _ {S : Type 0} (z : Claim S) where
 
   beginning : (e : Entry S) → Decides (begins z e) (((e.root ≡ 0) × ((e.state ≡ z.automaton.start) × (e.label ≡ 0))) × Within z (z.answers.start (scope z)) e.shape)
   beginning e =
-      both _ _ (both _ _ (same e.root 0) (both _ _ (same e.state z.automaton.start) (same e.label 0))) (λ h. h, λ h. h)
+      Decides-and _ _ (Decides-and _ _ (Decides-eqb e.root 0) (Decides-and _ _ (Decides-eqb e.state z.automaton.start) (Decides-eqb e.label 0))) (λ h. h, λ h. h)
 
   pub starting : Decides (table_begins z z.table) (Begins z)
   starting = (

@@ -1,4 +1,5 @@
-use Rattle.std.proofs.Common.{◌≡◌, ℕ, suc, ◌+◌, ◌<◌, Bool, true, false, cond, not, eqb, List, [], ◌∷◌, length, get_or, Some, None, Option, sym, refl, ap, ◌∙◌, add-one, ◌⊎◌, inl, inr}
+use Rattle.std.proofs.Common.{◌≡◌, ℕ, suc, Bool, true, false, cond, not, eqb, List, [], ◌∷◌, get_or, Some, None, Option, sym, refl, ap, ◌∙◌, add-one, ◌⊎◌, inl, inr}
+use Rattle.std.proofs.Math.Bool.{not-not}
 use Rattle.std.specs.List.{position, position_from}
 use Rattle.std.specs.Option.{option_map}
 use Rattle.std.proofs.lemmas.Bool.{cases_Bool, cond-true, cond-false}
@@ -7,7 +8,7 @@ use Rattle.fault.specs.Faults.Outcome.{accepted}
 use Rattle.fault.specs.declared.Place.{Place}
 use Rattle.abstraction.specs.Lists.{or_else, unless, fault}
 use Rattle.judge.specs.Claims.{Claim}
-use Rattle.judge.specs.Judged.{at_entry, at_rule, at_return, time_closed, rule_closed, opens, return_closed, pops_fault, return_fault, returns_fault, entry_fault, closure_fault, sizes_fit, entry_lawful, lawful_fault, table_begins, target_fault, unless_failed, unless_found, judged}
+use Rattle.judge.specs.Judged.{at_entry, at_rule, at_return, time_closed, rule_closed, opens, return_closed, return_fault, returns_fault, entry_fault, closure_fault, sizes_fit, entry_lawful, lawful_fault, table_begins, target_fault, unless_failed, unless_found, judged}
 use Rattle.judge.specs.declared.entry.Entry.{Entry}
 
 -- the place at fault, by the positions that the searches of a judgment come to
@@ -25,18 +26,14 @@ module _ {X Y : Type 0} (p q : X → Bool) (fails : (x : X) → not (p x) ≡ q 
   fault_by : (xs : List X) (o : Option ℕ) → o ≡ position q xs → fault p y 0 xs ≡ option_map y o
   fault_by xs o h = fault_from 0 xs ∙ ap (option_map y) (sym (h ∙ position_from-zero q xs))
 
-pub fault_at : {X Y : Type 0} (p : X → Bool) (y : ℕ → Y) (xs : List X) (o : Option ℕ) → o ≡ position (λ x. not (p x)) xs → fault p y 0 xs ≡ option_map y o
+fault_at : {X Y : Type 0} (p : X → Bool) (y : ℕ → Y) (xs : List X) (o : Option ℕ) → o ≡ position (λ x. not (p x)) xs → fault p y 0 xs ≡ option_map y o
 fault_at p y = fault_by p (λ x. not (p x)) (λ x. refl) y
 
 -- a claim by what is found of it
 module _ {S : Type 0} (z : Claim S) where
-  twice : (b : Bool) → not (not b) ≡ b
-  twice true = refl
-  twice false = refl
-
   pub target_at : (o w : Option ℕ) → o ≡ position (λ e. eqb e.state z.automaton.target) z.table → o ≡ w → target_fault z ≡ option_map at_entry w
   target_at o w h e =
-      fault_by (λ e. not (eqb e.state z.automaton.target)) (λ e. eqb e.state z.automaton.target) (λ e. twice (eqb e.state z.automaton.target)) at_entry z.table o h ∙ ap (option_map at_entry) e
+      fault_by (λ e. not (eqb e.state z.automaton.target)) (λ e. eqb e.state z.automaton.target) (λ e. not-not (eqb e.state z.automaton.target)) at_entry z.table o h ∙ ap (option_map at_entry) e
 
   pub lawful_at : (o w : Option ℕ) → o ≡ position (λ e. not (entry_lawful z e)) z.table → o ≡ w → lawful_fault z ≡ option_map at_entry w
   lawful_at o w h e = fault_at (entry_lawful z) at_entry z.table o h ∙ ap (option_map at_entry) e
@@ -45,9 +42,6 @@ module _ {S : Type 0} (z : Claim S) where
   judged_by n l t c b s h k m f = rw (s, h, k, m, f) refl
 
 module _ {S : Type 0} (z : Claim S) (k : ℕ) (e : Entry S) where
-  pub at_time : time_closed z e ≡ false → entry_fault z k e ≡ Some (at_entry k)
-  at_time h = rw h refl
-
   pub past_rules : (o : Option ℕ) → time_closed z e ≡ true → o ≡ position (λ r. not (rule_closed z e r)) z.automaton.rules → o ≡ None → entry_fault z k e ≡ returns_fault z k e
   past_rules o t h n = rw (t, fault_at (rule_closed z e) (at_rule k) z.automaton.rules o h, n) refl
 

@@ -1,5 +1,6 @@
 use Rattle.std.proofs.Common.{◌≡◌, ℕ, Bool, true, false, not, eqb, Some, None, Option, sym, refl, ◌∙◌, subst, arith}
 use Rattle.std.proofs.lemmas.List.{get_or_default}
+use Rattle.std.proofs.lemmas.Bool.Decides.{Decides-eqb, Decides-not, not_from_Decides}
 use Rattle.fault.specs.Faults.Outcome.{accepted, refused}
 use Rattle.fault.specs.declared.Layer.TheVariants.{Evidence}
 use Rattle.fault.specs.declared.Place.{Place}
@@ -12,7 +13,6 @@ use Rattle.judge.specs.Law.{Refused, Law}
 use Rattle.judge.specs.Law.Refused.{unfit, unlawful, elsewhere, in_target, not_closed}
 use Rattle.judge.specs.Marks.{Rooted}
 use Rattle.judge.specs.declared.entry.Entry.{Entry}
-use Rattle.judge.proofs.Deciding.{not_so, differ}
 use Rattle.judge.proofs.Reflect.{fitting, allowing, starting}
 use Rattle.judge.proofs.Firsts.{first_without, none_without, closed_none, first_open, open_not_closed}
 
@@ -53,16 +53,16 @@ module _ {S : Type 0} (z : Claim S) (n : ℕ) where
   by_target : Fit z n → Entries → Begins z → (o : Option Place) → target_fault z ≡ o → Law z n (unless_found o 21 (unless_found (closure_fault z) 22 (accepted tt)))
   unfolding Entries
   by_target f l b None h =
-      by_closure f l b (none_without z (λ e. not (eqb e.state z.automaton.target)) (λ e. e.state ≡ z.automaton.target → ⊥) (λ e. differ e.state z.automaton.target) h) (closure_fault z) refl
+      by_closure f l b (none_without z (λ e. not (eqb e.state z.automaton.target)) (λ e. e.state ≡ z.automaton.target → ⊥) (λ e. Decides-not (eqb e.state z.automaton.target) (Decides-eqb e.state z.automaton.target)) h) (closure_fault z) refl
   by_target f l b (Some p) h =
-      let w = first_without z (λ e. not (eqb e.state z.automaton.target)) (λ e. e.state ≡ z.automaton.target → ⊥) (λ e. differ e.state z.automaton.target) p h in
+      let w = first_without z (λ e. not (eqb e.state z.automaton.target)) (λ e. e.state ≡ z.automaton.target → ⊥) (λ e. Decides-not (eqb e.state z.automaton.target) (Decides-eqb e.state z.automaton.target)) p h in
       refusal 21 p (λ k _. w.fails (k.avoids w.entry (w.place, w.sits))) (in_target refl f l b w)
 
   by_start : Fit z n → Entries → (t : Bool) → table_begins z z.table ≡ t → Law z n (unless_failed t 20 (at_entry 0) (unless_found (target_fault z) 21 (unless_found (closure_fault z) 22 (accepted tt))))
   unfolding Entries
   by_start f l true h = by_target f l ((starting z).0 h) (target_fault z) refl
   by_start f l false h =
-      refusal 20 (at_entry 0) (λ k _. not_so _ (starting z) h k.begins) (elsewhere refl refl f l (not_so _ (starting z) h))
+      refusal 20 (at_entry 0) (λ k _. not_from_Decides _ (starting z) h k.begins) (elsewhere refl refl f l (not_from_Decides _ (starting z) h))
 
   by_entries : Fit z n → (o : Option Place) → lawful_fault z ≡ o → Law z n (unless_found o 19 (unless_failed (table_begins z z.table) 20 (at_entry 0) (unless_found (target_fault z) 21 (unless_found (closure_fault z) 22 (accepted tt)))))
   unfolding Entries
@@ -74,7 +74,7 @@ module _ {S : Type 0} (z : Claim S) (n : ℕ) where
   by_sizes : (t : Bool) → sizes_fit z n ≡ t → Law z n (unless_failed t 18 (Table 2048 64 2048) (unless_found (lawful_fault z) 19 (unless_failed (table_begins z z.table) 20 (at_entry 0) (unless_found (target_fault z) 21 (unless_found (closure_fault z) 22 (accepted tt))))))
   by_sizes true h = by_entries ((fitting z n).0 h) (lawful_fault z) refl
   by_sizes false h =
-      refusal 18 (Table 2048 64 2048) (λ k _. not_so _ (fitting z n) h k.fit) (unfit refl refl (not_so _ (fitting z n) h))
+      refusal 18 (Table 2048 64 2048) (λ k _. not_from_Decides _ (fitting z n) h k.fit) (unfit refl refl (not_from_Decides _ (fitting z n) h))
 
   pub lawful_verdict : Law z n (judged z n)
   lawful_verdict = by_sizes (sizes_fit z n) refl

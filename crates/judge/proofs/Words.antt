@@ -1,4 +1,4 @@
-use Rattle.std.proofs.Common.{◌≡◌, ℕ, suc, ◌+◌, Bool, true, eqb, ◌&&◌, ◌||◌, List, [], ◌∷◌, refl, sym, ap, ◌∙◌, add-one}
+use Rattle.std.proofs.Common.{◌≡◌, ℕ, suc, Bool, true, eqb, ◌&&◌, ◌||◌, List, [], ◌∷◌, refl, ap, ◌∙◌, add-one}
 use Rattle.std.specs.List.{list_all, list_any, enumerate_from}
 use Rattle.abstraction.specs.Lists.{all, any}
 use Rattle.automaton.specs.declared.rule.Rule.{Rule}

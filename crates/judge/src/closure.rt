@@ -147,6 +147,7 @@ impl<'m, 'a, 't, A: Abstraction> Judging<'m, 'a, 't, A> {
 
     // Whether the entry at k is closed, or the first place at which it is not. Pops are looked at
     // under each entry whose root e opens; the marks tell which entries those are.
+    // (d) Marks and listing stay two parameters: callers lend both, and most methods take the listing alone.
     fn entry_closed(
         &self,
         k: usize,

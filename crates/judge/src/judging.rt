@@ -11,6 +11,7 @@ use abstraction::{Abstraction, Scope};
 use automaton::Model;
 
 // A model, an abstraction with the bound up to which it is asked, and a table.
+// (c) No Model has the claim as its view: a claim holds functions, and no code tells those apart.
 #[derive(Drop)]
 pub(crate) struct Judging<'m, 'a, 't, A: Abstraction> {
     pub(crate) model: &'m Model,

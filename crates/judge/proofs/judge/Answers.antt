@@ -1,4 +1,4 @@
-use Rattle.std.proofs.Common.{length, sym, ◌∙◌, subst, rules}
+use Rattle.std.proofs.Common.{length, sym, ◌∙◌, subst}
 use Rattle.automaton.specs.Models.{automaton}
 use Rattle.judge.specs.Claims.{claim}
 use Rattle.judge.specs.Law.{Law}
