@@ -1,8 +1,10 @@
-use Rattle.std.proofs.Common.{◌≡◌, ℕ, zero, suc, ◌+◌, ◌<◌, ◌≤◌, Bool, true, ◌&&◌, ltb, List, [], ◌∷◌, ◌++◌, map, length, get_or, sym, refl, ◌∙◌, arith}
+use Rattle.std.proofs.Common.{◌≡◌, ℕ, zero, suc, ◌+◌, ◌<◌, ◌≤◌, Bool, true, ◌&&◌, ltb, List, [], ◌∷◌, map, length, get_or, Some, None, Option, IfSome, Bor, sym, refl, ◌∙◌, arith}
 use Rattle.std.specs.List.{remove}
 use Rattle.std.proofs.lemmas.Bool.{and_parts, and_from, ltb-true}
 use Rattle.std.proofs.lemmas.List.{get_or_default}
 use Rattle.std.proofs.lemmas.Bool.Decides.{nat_tests}
+use Rattle.std.specs.Option.{option_copied}
+use Rattle.std.specs.Slice.{IsItemAt}
 use Rattle.abstraction.specs.Lists.{all}
 use Rattle.abstraction.proofs.Found.{all_true}
 use Rattle.automaton.specs.Lawful.{names, lawful, all_lawful, Clocked, AllClocked}
@@ -12,11 +14,7 @@ use Rattle.automaton.specs.declared.rule.Sizes.{Sizes}
 use Rattle.automaton.specs.declared.rule.Action.{Action}
 use Rattle.automaton.specs.declared.rule.Action.TheVariants.{Move, Test, Assign, Push, Pop}
 
--- what holds of each element still holds after one more, or one less
-
-pub all_pushed : {X : Type 0} (p : X → Bool) (xs : List X) (x : X) → all p xs ≡ true → p x ≡ true → all p (xs ++ x ∷ []) ≡ true
-all_pushed p [] x h e = and_from (p x) true e refl
-all_pushed p (y ∷ ys) x h e = let q = and_parts (p y) (all p ys) h in and_from (p y) _ q.0 (all_pushed p ys x q.1 e)
+-- what holds of each element still holds after one less
 
 pub all_removed : {X : Type 0} (p : X → Bool) (xs : List X) (i : ℕ) → all p xs ≡ true → all p (remove xs i) ≡ true
 all_removed p [] zero h = refl
@@ -47,6 +45,11 @@ wider n k (Pop l) h f = tt
 pub lawful_at : (z : Sizes) (rs : List Rule) (k : ℕ) (r : Rule) → k < length rs → r ≡ get_or rs k r → all_lawful z rs ≡ true → lawful z r ≡ true
 lawful_at z rs k r l i e = all_true (lawful z) rs k r (l, λ d. get_or_default rs k d r l ∙ sym i) e
 
+-- and so is one that is lent
+pub lawful_lent : (z : Sizes) (rs : List Rule) (k : ℕ) (r : Option (Bor Rule)) → IsItemAt rs k r → all_lawful z rs ≡ true → IfSome (option_copied r) (λ x. lawful z x ≡ true)
+lawful_lent z rs k None h e = tt
+lawful_lent z rs k (Some r) h e = lawful_at z rs k r.now h.3.0 h.1 e
+
 pub all_clocked : (z : Sizes) (n : ℕ) (rs : List Rule) → z.clocks ≤ n → all_lawful z rs ≡ true → AllClocked n rs
 all_clocked z n rs h e k r l i = wider z.clocks n r.action h (lawful_clock z r (lawful_at z rs k r l i e))
 
@@ -55,7 +58,7 @@ all_clocked z n rs h e k r l i = wider z.clocks n r.action h (lawful_clock z r (
 bumped_fits : (p k n : ℕ) → ltb k n ≡ true → ltb (bumped p k) (n + 1) ≡ true
 bumped_fits p k n h = grind (arith, nat_tests)
 
-abbrev more_clocks : Sizes → Sizes
+abbrev pub more_clocks : Sizes → Sizes
 more_clocks z = record { states = z.states; labels = z.labels; clocks = z.clocks + 1 }
 
 lifted_named : (p : ℕ) (z : Sizes) (a : Action) → names z a ≡ true → names (more_clocks z) (lifted p a) ≡ true

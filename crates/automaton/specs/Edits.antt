@@ -1,10 +1,9 @@
-use Rattle.std.specs.Prelude.{◌≡◌, ℕ, ◌<◌, Bool, true, ◌&&◌, List, [], ◌∷◌, ◌++◌, length, nat_le, nat_lt}
+use Rattle.std.specs.Prelude.{ℕ, Bool, ◌&&◌, List, [], ◌∷◌, ◌++◌, length, nat_le, nat_lt}
 use Rattle.std.specs.List.{remove}
 use Rattle.fault.specs.Faults.{Outcome}
 use Rattle.fault.specs.Faults.Outcome.{accepted, refused}
 use Rattle.automaton.specs.Runs.{Automaton}
 use Rattle.automaton.specs.Rules.{unless, rule, read_rule}
-use Rattle.automaton.specs.Lawful.{lawful}
 use Rattle.automaton.specs.Insert.{with_clock}
 use Rattle.automaton.specs.declared.rule.Rule.{Rule}
 use Rattle.automaton.specs.declared.rule.RuleNumbers.{RuleNumbers}
@@ -66,12 +65,6 @@ with_rules rs m =
 
 abbrev pub add_outcome : RuleNumbers → Automaton → Outcome Rule
 add_outcome n m = unless (nat_lt (length m.rules) 64) 3 (read_rule (sizes m) n)
-
--- such a rule has room and is lawful
-pub record FitsIn (m : Automaton) (n : RuleNumbers) (r : Rule) : Type 0 where
-  pub room : length m.rules < 64
-  pub same : r ≡ rule n
-  pub law : lawful (sizes m) r ≡ true
 
 abbrev pub add_after : RuleNumbers → Automaton → Automaton
 add_after n m = settle (add_outcome n m) (with_rules (m.rules ++ rule n ∷ []) m) m

@@ -1,4 +1,4 @@
-use Rattle.std.specs.Prelude.{ℕ, Bool, cond, ◌&&◌, ◌||◌, ◌==◌, nat_le, nat_lt}
+use Rattle.std.specs.Prelude.{ℕ, Bool, cond, ◌&&◌, ◌||◌, List, ◌==◌, nat_le, nat_lt, slice_index}
 use Rattle.fault.specs.Faults.{Outcome}
 use Rattle.fault.specs.Faults.Outcome.{accepted, refused}
 use Rattle.fault.specs.declared.Layer.TheVariants.{Case}
@@ -91,4 +91,18 @@ written r =
       lower_flag = cond r.interval.strict 1 0;
       upper = bound_of r.interval.upper;
       upper_flag = flag_of r.interval.upper;
+    }
+
+-- eight numbers in the order of a row
+abbrev pub numbers : List ℕ → RuleNumbers
+numbers row =
+    record {
+      from = slice_index row 0;
+      to = slice_index row 1;
+      kind = slice_index row 2;
+      argument = slice_index row 3;
+      lower = slice_index row 4;
+      lower_flag = slice_index row 5;
+      upper = slice_index row 6;
+      upper_flag = slice_index row 7;
     }

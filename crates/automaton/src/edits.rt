@@ -4,7 +4,7 @@ ghost use Rattle.std.specs.Prelude.{◌≡◌, false, is_ok, IfOk};
 ghost use Rattle.fault.specs.Faults.{outcome};
 ghost use Rattle.automaton.specs.Insert.{SameReach};
 ghost use Rattle.automaton.specs.Models.{automaton};
-ghost use Rattle.automaton.specs.Edits.{FitsIn, fresh, sizes_fit, ends_fit, open_outcome, open_after, add_outcome, add_after, remove_outcome, remove_after, retarget_outcome, retarget_after, insert_outcome, insert_after};
+ghost use Rattle.automaton.specs.Edits.{fresh, sizes_fit, ends_fit, open_outcome, open_after, add_outcome, add_after, remove_outcome, remove_after, retarget_outcome, retarget_after, insert_outcome, insert_after};
 
 use super::model::{Model, Opening};
 use super::rule::{Rule, RuleNumbers, Sizes};
@@ -68,28 +68,18 @@ impl Model {
         Ok(())
     }
 
-    // The rule that eight numbers write, where there is room for one more.
-    fn read(&self, n: RuleNumbers) -> Result<Rule, Fault>
-        ensures answer { outcome result ≡ add_outcome n (automaton self.now) }
-        ensures fits { IfOk result (FitsIn (automaton self.now) n) }
-    {
-        if self.rules.items.len() >= RULES {
-            return Err(Fault::of_call(Refusal::RuleTableFull));
-        }
-        Rule::read(self.sizes, n)
-    }
-
     // Appends the rule that eight numbers write.
     pub fn add(&mut self, n: RuleNumbers) -> Result<Rule, Fault>
         ensures answer { outcome result ≡ add_outcome n (automaton self.old) }
         ensures after { automaton self.new ≡ add_after n (automaton self.old) }
         ensures kept { is_ok result ≡ false → self.new ≡ self.old }
     {
-        let read = self.read(n);
-        if let Ok(rule) = read {
-            self.rules.items.push_reserved(rule);
+        if self.rules.items.len() >= RULES {
+            return Err(Fault::of_call(Refusal::RuleTableFull));
         }
-        read
+        let rule = Rule::read(self.sizes, n)?;
+        self.rules.items.push_reserved(rule);
+        Ok(rule)
     }
 
     // Takes a rule out; later rules move down.

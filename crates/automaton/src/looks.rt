@@ -42,10 +42,6 @@ impl Model {
         ensures value { result ≡ slice_get (automaton self.now).rules place }
         ensures law { IfSome result (λ x. lawful (sizes_of (automaton self.now)) x ≡ true) }
     {
-        if place < self.rules.items.len() as u64 {
-            Some(self.rules.items[place as usize])
-        } else {
-            None
-        }
+        self.rules().get(place as usize).copied()
     }
 }

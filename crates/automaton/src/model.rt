@@ -4,7 +4,7 @@ ghost use Rattle.automaton.specs.Lawful.{all_lawful};
 use super::rule::Sizes;
 use super::table::RuleTable;
 
-// The sizes, start and target that a model is opened with.
+// The sizes, start and target that a model is opened with, of any size, since public calls take all numbers.
 #[derive(Clone, Copy)]
 pub struct Opening {
     pub states: u64,

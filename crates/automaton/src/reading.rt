@@ -56,42 +56,35 @@ fn upper(flag: u64, bound: u8) -> Upper
     }
 }
 
-// The rule of eight numbers whose states and kind, argument and bounds fit in this order.
-fn decode(sizes: Sizes, n: RuleNumbers) -> Result<Rule, Fault>
-    ensures { outcome result ≡ read_rule sizes n }
-{
-    if !states_fit(sizes, n) {
-        return Err(Fault::of_call(Refusal::RuleStateUnknown));
-    }
-    if n.kind > 4 {
-        return Err(Fault::of_call(Refusal::KindUnknown));
-    }
-    if !argument_fits(sizes, n.kind, n.argument) {
-        return Err(Fault::of_call(Refusal::ArgumentUnfit));
-    }
-    if !bounds_fit(n) {
-        return Err(Fault::of_call(Refusal::BoundUnfit));
-    }
-    let upper = upper(n.upper_flag, n.upper as u8);
-    let interval = Interval {
-        lower: n.lower as u8,
-        strict: n.lower_flag == 1,
-        upper,
-    };
-    Ok(Rule {
-        from: n.from as u8,
-        to: n.to as u8,
-        action: action(n.kind, n.argument as u8),
-        interval,
-    })
-}
-
 impl Rule {
     // The rule that eight numbers write, for so many states, labels and clocks, or why they write none.
     pub fn read(sizes: Sizes, n: RuleNumbers) -> Result<Rule, Fault>
         ensures value { outcome result ≡ read_rule sizes n }
         ensures law { Reads sizes n (outcome result) }
     {
-        decode(sizes, n)
+        if !states_fit(sizes, n) {
+            return Err(Fault::of_call(Refusal::RuleStateUnknown));
+        }
+        if n.kind > 4 {
+            return Err(Fault::of_call(Refusal::KindUnknown));
+        }
+        if !argument_fits(sizes, n.kind, n.argument) {
+            return Err(Fault::of_call(Refusal::ArgumentUnfit));
+        }
+        if !bounds_fit(n) {
+            return Err(Fault::of_call(Refusal::BoundUnfit));
+        }
+        let upper = upper(n.upper_flag, n.upper as u8);
+        let interval = Interval {
+            lower: n.lower as u8,
+            strict: n.lower_flag == 1,
+            upper,
+        };
+        Ok(Rule {
+            from: n.from as u8,
+            to: n.to as u8,
+            action: action(n.kind, n.argument as u8),
+            interval,
+        })
     }
 }

@@ -1,5 +1,8 @@
 // Rules, their actions and the symbols of the stack.
 
+ghost use Rattle.std.specs.Prelude.{◌≡◌};
+ghost use Rattle.automaton.specs.Rules.{numbers};
+
 use abstraction::Interval;
 
 #[derive(Clone, Copy)]
@@ -26,7 +29,7 @@ pub struct Symbol {
     pub age: u64,
 }
 
-// A rule as users write it: eight whole numbers.
+// A rule as users write it: eight whole numbers, since public calls take all numbers.
 #[derive(Clone, Copy)]
 pub struct RuleNumbers {
     pub from: u64,
@@ -37,6 +40,25 @@ pub struct RuleNumbers {
     pub lower_flag: u64,
     pub upper: u64,
     pub upper_flag: u64,
+}
+
+impl From<[u64; 8]> for RuleNumbers {
+    ghost from_gives = { λ row n. n ≡ numbers row };
+
+    fn from(row: [u64; 8]) -> RuleNumbers
+        ensures { result ≡ numbers row }
+    {
+        RuleNumbers {
+            from: row[0],
+            to: row[1],
+            kind: row[2],
+            argument: row[3],
+            lower: row[4],
+            lower_flag: row[5],
+            upper: row[6],
+            upper_flag: row[7],
+        }
+    }
 }
 
 // How many states, labels and clocks there are.

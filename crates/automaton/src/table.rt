@@ -1,8 +1,8 @@
 // The rules of a model by their places.
 
-ghost use Rattle.std.specs.Prelude.{◌≡◌, ℕ, ◌+◌, ◌<◌, ◌≤◌, List, [], ◌∷◌, ◌++◌, map, length, vec_len, vec_capacity};
+ghost use Rattle.std.specs.Prelude.{◌≡◌, map, vec_len, vec_capacity};
 ghost use Rattle.automaton.specs.Lawful.{Clocked, AllClocked};
-ghost use Rattle.automaton.specs.Insert.{lifted, raised};
+ghost use Rattle.automaton.specs.Insert.{raised};
 
 use super::rule::{Action, Rule};
 
@@ -11,24 +11,18 @@ pub struct RuleTable {
     pub(crate) items: Vec<Rule>,
 }
 
-fn lift(action: Action, at: u8) -> Action
-    requires { Clocked 3 action }
-    ensures { result ≡ lifted at action }
-{
-    match action {
-        Action::Test(k) if k >= at => Action::Test(k + 1),
-        Action::Assign(k) if k >= at => Action::Assign(k + 1),
-        other => other,
-    }
-}
-
 impl Rule {
     // Names the clock by its new place, once a new clock stands at `at`.
     pub(crate) fn raise(&mut self, at: u8)
         requires { Clocked 3 self.old.action }
         ensures { self.new ≡ raised at self.old }
     {
-        self.action = lift(self.action, at);
+        // Two arms, since what one pattern with | that lends a clock changes is not proved.
+        match &mut self.action {
+            Action::Test(clock) if *clock >= at => *clock += 1,
+            Action::Assign(clock) if *clock >= at => *clock += 1,
+            _ => {}
+        }
     }
 }
 
@@ -40,9 +34,8 @@ impl RuleTable {
         ensures capacity { vec_capacity self.new.items ≡ vec_capacity self.old.items }
         ensures len { vec_len self.new.items ≡ vec_len self.old.items }
     {
-        let n = self.items.len();
-        for i in 0..n {
-            self.items[i].raise(at);
+        for rule in self.items.iter_mut() {
+            rule.raise(at);
         }
     }
 }

@@ -35,6 +35,19 @@ impl Case {
         })
     }
 
+    // Makes the case what a new one is.
+    pub fn renew(&mut self)
+        ensures { view self.new ≡ new_case }
+    {
+        let _ = self.open(Opening {
+            states: 1,
+            start: 0,
+            target: 0,
+            labels: 0,
+            clocks: 0,
+        });
+    }
+
     // Sets all sizes, start and target, with no rules.
     pub fn open(&mut self, opening: Opening) -> Result<(), Fault>
         ensures answer { outcome result ≡ open_outcome opening }

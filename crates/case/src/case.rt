@@ -4,7 +4,7 @@ use super::run::Run;
 use super::stack::Stack;
 use automaton::Model;
 
-#[derive(Clone, Copy)]
+#[derive(Clone, Copy, Debug, PartialEq, Eq)]
 pub enum Standing {
     Undecided,
     Reachable,

@@ -168,12 +168,6 @@ pub fn attend<C: Calls>(case: &mut Case, calls: C) -> C
     ensures law { OverCalls (C.Calls.covering calls) (C.Calls.notes result) (view case.new) }
     ensures same { events (C.Calls.notes result) ≡ events (C.Calls.notes calls) }
 {
-    let _ = case.open(Opening {
-        states: 1,
-        start: 0,
-        target: 0,
-        labels: 0,
-        clocks: 0,
-    });
+    case.renew();
     calls.make(case)
 }

@@ -31,19 +31,6 @@ fn sized(states: u64, start: u64, target: u64, labels: u64, clocks: u64) -> Open
     }
 }
 
-fn rule(row: [u64; 8]) -> RuleNumbers {
-    RuleNumbers {
-        from: row[0],
-        to: row[1],
-        kind: row[2],
-        argument: row[3],
-        lower: row[4],
-        lower_flag: row[5],
-        upper: row[6],
-        upper_flag: row[7],
-    }
-}
-
 fn draw(case: &mut Case) -> u8 {
     code(crate::draw(case))
 }
@@ -137,13 +124,13 @@ fn limits(rt: HostRuntime) -> Result<(), Fail> {
 fn refused_rules(rt: HostRuntime) -> Result<(), Fail> {
     let mut case = Case::new(rt.alloc())?;
     assert!(rt; code(case.open(sized(2, 0, 1, 1, 1))) == 0);
-    assert!(rt; code(case.add(rule([2, 0, 9, 9, 16, 2, 16, 3]))) == 4);
-    assert!(rt; code(case.add(rule([1, 0, 5, 9, 16, 2, 16, 3]))) == 5);
-    assert!(rt; code(case.add(rule([1, 0, 4, 0, 16, 2, 16, 3]))) == 6);
-    assert!(rt; code(case.add(rule([1, 0, 2, 1, 0, 0, 0, 0]))) == 6);
-    assert!(rt; code(case.add(rule([1, 0, 4, 1, 16, 0, 0, 0]))) == 7);
-    assert!(rt; code(case.add(rule([1, 0, 4, 1, 15, 0, 1, 2]))) == 7);
-    assert!(rt; code(case.add(rule([1, 0, 4, 1, 15, 1, 0, 2]))) == 0);
+    assert!(rt; code(case.add([2, 0, 9, 9, 16, 2, 16, 3].into())) == 4);
+    assert!(rt; code(case.add([1, 0, 5, 9, 16, 2, 16, 3].into())) == 5);
+    assert!(rt; code(case.add([1, 0, 4, 0, 16, 2, 16, 3].into())) == 6);
+    assert!(rt; code(case.add([1, 0, 2, 1, 0, 0, 0, 0].into())) == 6);
+    assert!(rt; code(case.add([1, 0, 4, 1, 16, 0, 0, 0].into())) == 7);
+    assert!(rt; code(case.add([1, 0, 4, 1, 15, 0, 1, 2].into())) == 7);
+    assert!(rt; code(case.add([1, 0, 4, 1, 15, 1, 0, 2].into())) == 0);
     Ok(())
 }
 
@@ -153,9 +140,9 @@ fn full(rt: HostRuntime) -> Result<(), Fail> {
     let mut case = Case::new(rt.alloc())?;
     assert!(rt; code(case.open(sized(1, 0, 0, 1, 0))) == 0);
     for _ in 0..64u8 {
-        assert!(rt; code(case.add(rule([0, 0, 3, 1, 0, 0, 0, 2]))) == 0);
+        assert!(rt; code(case.add([0, 0, 3, 1, 0, 0, 0, 2].into())) == 0);
     }
-    assert!(rt; code(case.add(rule([0, 0, 3, 1, 0, 0, 0, 2]))) == 3);
+    assert!(rt; code(case.add([0, 0, 3, 1, 0, 0, 0, 2].into())) == 3);
     assert!(rt; at(case.begin(1)) == 0);
     for _ in 0..128u8 {
         assert!(rt; at(case.fire(63, 7)) == 0);

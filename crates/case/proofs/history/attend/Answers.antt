@@ -4,6 +4,6 @@ use Rattle.case.proofs.history.attend.Goals as goal
 pub returns : goal.returns
 returns g c =
     record {
-      law = over_calls _ _ _ _ c.open.ensures.after c.make.ensures.played;
+      law = over_calls _ _ _ _ c.renew.ensures c.make.ensures.played;
       same = c.make.ensures.same;
     }

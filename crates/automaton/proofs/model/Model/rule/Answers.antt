@@ -1,13 +1,5 @@
-use Rattle.std.proofs.Common.{◌<◌, length, rules}
-use Rattle.std.proofs.lemmas.Option.{slice_get_read, slice_get_past}
-use Rattle.automaton.proofs.Lawfully.{lawful_at}
+use Rattle.automaton.proofs.Lawfully.{lawful_lent}
 use Rattle.automaton.proofs.model.Model.rule.Goals as goal
 
-pub returns-then-place-len : goal.returns-then-place-len
-returns-then-place-len c =
-    let m = c.args.self.now in
-    let h : c.args.place < length m.rules.items.items = search rules in
-    record { value = search (rules, slice_get_read); law = lawful_at m.sizes m.rules.items.items c.args.place _ h c.index.ensures m.lawful }
-
-pub returns-else-place-len : goal.returns-else-place-len
-returns-else-place-len c = record { value = search (rules, slice_get_past); law = tt }
+pub returns-clause-law : goal.returns-clause-law
+returns-clause-law c = rw c.copied.ensures (lawful_lent c.args.self.now.sizes c.rules.result.now _ _ c.get.ensures.lookup c.rules.ensures.law)

@@ -1,6 +1,0 @@
-use Rattle.std.proofs.Common.{rules}
-use Rattle.automaton.proofs.Lawfully.{all_pushed}
-use Rattle.automaton.proofs.model.Model.add.Goals as goal
-
-pub invariant_of-self : goal.invariant_of-self
-invariant_of-self c = record { room = search rules; few = search rules; timed = search rules; lawful = search (rules, all_pushed) }
