@@ -1,5 +1,5 @@
 -- What is laid out is read as it is, and what is read was laid out.
-use Rattle.std.proofs.Common.{◌≡◌, ℕ, zero, suc, ◌+◌, ◌-◌, ◌<◌, ◌≤◌, Bool, true, false, cond, ◌&&◌, eqb, ltb, List, [], ◌∷◌, ◌++◌, length, drop, sym, refl, ap, ◌∙◌, subst, append_assoc, one-add, arith}
+use Rattle.std.proofs.Common.{◌≡◌, ℕ, zero, suc, ◌+◌, ◌-◌, ◌<◌, ◌≤◌, Bool, true, false, cond, ◌&&◌, ◌||◌, eqb, ltb, List, [], ◌∷◌, ◌++◌, length, drop, sym, refl, ap, ◌∙◌, subst, append_assoc, one-add, arith}
 use Rattle.std.specs.List.{prefix_len, AllByRecursion}
 use Rattle.std.proofs.lemmas.List.{drop_at, take_at, append-nil, length-append}
 use Rattle.std.proofs.lemmas.Bool.{true≢false, eqb-true, eqb-false, ltb-true}
@@ -11,7 +11,7 @@ use Rattle.token.specs.Tokens.{number, Ahead, token, end, none, ahead, token_len
 use Rattle.token.specs.Layout.{Piece, word, numeric, punct, written, tok, Fair, Laid, layout, Lays, tokens_of, Clean, LaidOut, AsLaidOut, WasLaidOut}
 use Rattle.token.proofs.Going.{go, arrives}
 use Rattle.token.proofs.Numbers.{cut_rest, leading_cut, number_cut}
-use Rattle.token.proofs.Longest.{leading_exact, leading_stop, longest_len, cut_longest, number_some}
+use Rattle.token.proofs.Longest.{leading_exact, longest_len, cut_longest, number_some}
 
 name_word : (w more : List ℕ) → 0 < length w → AllByRecursion (λ b. letter b ≡ true) w → name_len (34 ∷ (w ++ 34 ∷ more)) ≡ 2 + length w
 name_word w more some all =
@@ -38,38 +38,24 @@ goes_on k more s gap p all =
     arrives (gap ++ (written k ++ more)) p ∙ rw (lead, drop_at gap (written k ++ more) (length gap) refl) (at_piece (written k ++ more) (p + length gap) (rw s.long s.some) ∙ rw (s.same, s.long, drop_at (written k) more (length (written k)) refl))
 
 -- a number begins with a digit or a minus
-no_number : (bs : List ℕ) → digit (front bs) ≡ false → eqb (front bs) 45 ≡ false → number_len bs ≡ 0
-no_number bs d m =
-    let zero-no : eqb (front bs) 48 ≡ false = grind (arith, nat_tests) in
-    rw (m, zero-no, leading_stop digit bs d)
+number_front : (bs : List ℕ) → 0 < number_len bs → (digit (front bs) || eqb (front bs) 45) ≡ true
+number_front [] h = grind (arith, nat_tests)
+number_front (b ∷ bs) h = grind (arith, nat_tests)
 
-white_no : (b : ℕ) → white b ≡ true → (digit b ≡ false) × (eqb b 45 ≡ false)
-white_no b e = (grind (arith, nat_tests), grind (arith, nat_tests))
-
-mark_no : (b : ℕ) → mark b ≡ true → (digit b ≡ false) × (eqb b 45 ≡ false)
-mark_no b e = (grind (arith, nat_tests), grind (arith, nat_tests))
-
-quote_no : (b : ℕ) → eqb b 34 ≡ true → (digit b ≡ false) × (eqb b 45 ≡ false)
-quote_no b e = (grind (arith, nat_tests), grind (arith, nat_tests))
-
-other_front : (bs : List ℕ) (p : ℕ → Bool) → ((b : ℕ) → p b ≡ true → (digit b ≡ false) × (eqb b 45 ≡ false)) → 0 < number_len bs → (t : Bool) → p (front bs) ≡ t → p (front bs) ≡ false
-other_front bs p apart some true e = absurd (omega (arith, no_number bs (apart (front bs) e).0 (apart (front bs) e).1))
-other_front bs p apart some false e = e
+other_front : (b : ℕ) → (digit b || eqb b 45) ≡ true → (white b ≡ false) × (mark b ≡ false) × (eqb b 34 ≡ false)
+other_front b h = (grind (arith, nat_tests), grind (arith, nat_tests), grind (arith, nat_tests))
 
 stands_numeric : (ds more : List ℕ) → Longest ds more → Stands (numeric ds) more
 unfolding token_len token_of
 stands_numeric ds more h =
     let some = number_some ds h.one in
     let long = longest_len ds more h in
-    let any : 0 < number_len (ds ++ more) = omega arith in
-    let not_white = other_front (ds ++ more) white white_no any _ refl in
-    let not-mark = other_front (ds ++ more) mark mark_no any _ refl in
-    let not-quote = other_front (ds ++ more) (λ b. eqb b 34) quote_no any _ refl in
+    let other = other_front (front (ds ++ more)) (number_front (ds ++ more) (omega arith)) in
     record {
       some = some;
-      dark = not_white;
-      long = rw (not-mark, not-quote) long;
-      same = λ p. rw (not-mark, not-quote, long, take_at ds more (length ds) refl);
+      dark = other.0;
+      long = rw (other.1, other.2) long;
+      same = λ p. rw (other.1, other.2, long, take_at ds more (length ds) refl);
     }
 
 stands_word : (w more : List ℕ) → Fair (word w) more → Stands (word w) more
@@ -191,12 +177,12 @@ was_laid_out text a e = λ clean. was_laid text 0 (subst Clean e clean)
 
 -- the bytes of a number token are a number
 number_piece : (k : Piece) (more : List ℕ) (s q : ℕ) (ds : List ℕ) → Fair k more → tok k s ≡ number ds q → Number ds
-number_piece (word w) more s q ds f e = let z : ◌≡◌ {A = ℕ} 0 1 = cc in absurd (omega arith)
-number_piece (numeric cs) more s q ds f e = let same : cs ≡ ds = cc in subst Number same f.one
-number_piece (punct c) more s q ds f e = let z : ◌≡◌ {A = ℕ} 0 1 = cc in absurd (omega arith)
+number_piece (word w) more s q ds f e = absurd (cc)
+number_piece (numeric cs) more s q ds f e = let same : cs ≡ ds = cc in rw same at f.one
+number_piece (punct c) more s q ds f e = absurd (cc)
 
 number_there : (rest : List ℕ) (s q : ℕ) (ds : List ℕ) (t : Bool) (a b : Ahead) → eqb (token_len rest) 0 ≡ t → cond t (none s) (token (token_of rest s) a) ≡ token (number ds q) b → Number ds
-number_there rest s q ds true a b e h = let z : ◌≡◌ {A = ℕ} 0 1 = cc in absurd (omega arith)
+number_there rest s q ds true a b e h = absurd (cc)
 number_there rest s q ds false a b e h =
     let some : 0 < token_len rest = let z = eqb-false _ 0 e in grind arith in
     let g = begins rest some in
@@ -205,7 +191,7 @@ number_there rest s q ds false a b e h =
     number_piece g.piece g.more s q ds g.fair (sym shown ∙ which)
 
 number_at : (rest : List ℕ) (s q : ℕ) (ds : List ℕ) (b : Ahead) → go rest s ≡ token (number ds q) b → Number ds
-number_at [] s q ds b h = let z : ◌≡◌ {A = ℕ} 0 1 = cc in absurd (omega arith)
+number_at [] s q ds b h = absurd (cc)
 number_at (c ∷ rest) s q ds b h = number_there (c ∷ rest) s q ds _ _ b refl h
 
 pub number_token : (bs : List ℕ) (p q : ℕ) (ds : List ℕ) (b : Ahead) → ahead 0 bs p ≡ token (number ds q) b → Number ds

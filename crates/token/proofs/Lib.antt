@@ -1,5 +1,4 @@
 pub mod Going
-pub mod Turns
 pub mod Numbers
 pub mod Longest
 pub mod Layouts

@@ -2,7 +2,8 @@
 use Rattle.std.proofs.Common.{◌≡◌, ℕ, ◌+◌, ◌<◌, Bool, true, false, cond, ◌&&◌, ◌||◌, eqb, ltb, ◌⊎◌, List, [], ◌∷◌, ◌++◌, length, drop, sym, refl, ap, ◌∙◌, subst, inl, inr, append_assoc, arith}
 use Rattle.std.specs.List.{prefix_len, AllByRecursion}
 use Rattle.std.proofs.lemmas.List.{drop_at, get_or_append_left, length-append}
-use Rattle.std.proofs.lemmas.Bool.{eqb-true, eqb-false, ltb-true, or_cases}
+use Rattle.std.proofs.lemmas.Bool.{eqb-true, eqb-false, ltb-true}
+use Rattle.std.proofs.lemmas.Bool.Decides.{nat_tests}
 use Rattle.token.specs.Bytes.{digit}
 use Rattle.token.specs.Lex.{front, digits_len, sign_len, whole_len, fraction_len, power_len, exponent_len, tail_len, number_len}
 use Rattle.token.specs.Numbers.{Digits, Minus, Whole, Fraction, Signed, Power, Exponent, Number}
@@ -78,26 +79,24 @@ fraction_cut : (bs : List ℕ) → Cut (fraction_len bs) Fraction bs
 fraction_cut [] = no_cut [] (inl refl)
 fraction_cut (b ∷ bs) = fraction_case b bs (eqb b 46) (ltb 0 (digits_len bs)) refl refl
 
-either : (b : ℕ) → ((eqb b 43 ≡ true) ⊎ (eqb b 45 ≡ true)) → Signed (b ∷ [])
-either b (inl e) = inr (inl (ap (λ x. x ∷ []) (eqb-true b 43 e)))
-either b (inr e) = inr (inr (ap (λ x. x ∷ []) (eqb-true b 45 e)))
+either : (b : ℕ) → (eqb b 43 || eqb b 45) ≡ true → Signed (b ∷ [])
+either b e = grind (arith, nat_tests)
 
 signed_case : (b : ℕ) (bs : List ℕ) (t : Bool) → (eqb b 43 || eqb b 45) ≡ t → Cut (cond t 1 0) Signed (b ∷ bs)
-signed_case b bs true e = one_cut b bs (either b (or_cases (eqb b 43) (eqb b 45) e))
+signed_case b bs true e = one_cut b bs (either b e)
 signed_case b bs false e = no_cut (b ∷ bs) (inl refl)
 
 signed_cut : (bs : List ℕ) → Cut (cond (eqb (front bs) 43 || eqb (front bs) 45) 1 0) Signed bs
 signed_cut [] = no_cut [] (inl refl)
 signed_cut (b ∷ bs) = signed_case b bs (eqb b 43 || eqb b 45) refl
 
-letter_e : (b : ℕ) → ((eqb b 101 ≡ true) ⊎ (eqb b 69 ≡ true)) → (b ≡ 101) ⊎ (b ≡ 69)
-letter_e b (inl e) = inl (eqb-true b 101 e)
-letter_e b (inr e) = inr (eqb-true b 69 e)
+letter_e : (b : ℕ) → (eqb b 101 || eqb b 69) ≡ true → (b ≡ 101) ⊎ (b ≡ 69)
+letter_e b e = grind (arith, nat_tests)
 
 power_case : (b : ℕ) (bs : List ℕ) (t : Bool) → (eqb b 101 || eqb b 69) ≡ t → 0 < cond t (1 + cond (eqb (front bs) 43 || eqb (front bs) 45) 1 0) 0 → Cut (cond t (1 + cond (eqb (front bs) 43 || eqb (front bs) 45) 1 0) 0) Power (b ∷ bs)
 power_case b bs true e h =
     let c = signed_cut bs in
-    record { piece = b ∷ c.piece; more = c.more; parts = ap (λ l. b ∷ l) c.parts; long = omega (arith, c.long); kind = (b, c.piece, letter_e b (or_cases (eqb b 101) (eqb b 69) e), c.kind, refl) }
+    record { piece = b ∷ c.piece; more = c.more; parts = ap (λ l. b ∷ l) c.parts; long = omega (arith, c.long); kind = (b, c.piece, letter_e b e, c.kind, refl) }
 power_case b bs false e h = absurd (omega arith)
 
 power_cut : (bs : List ℕ) → 0 < power_len bs → Cut (power_len bs) Power bs

@@ -21,11 +21,7 @@ abbrev LIMIT : ℕ
 LIMIT = 1000000000000000
 
 numeral_step : (m d n : ℕ) (more : List ℕ) → d < 10 → n ≡ m * 10 + d → n ≤ LIMIT → numeral m ((48 + d) ∷ more) ≡ numeral n more
-numeral_step m d n more low is high =
-    let here : digit (48 + d) ≡ true = grind (arith, nat_tests) in
-    let back : 48 + d - 48 ≡ d = omega arith in
-    let fits : leb n LIMIT ≡ true = grind (arith, nat_tests) in
-    rw (here, back, ← is, fits)
+numeral_step m d n more low is high = grind (arith, nat_tests)
 
 numeral_decimal : (n : ℕ) → n < 2 ^ 64 → n ≤ LIMIT → (more : List ℕ) → numeral 0 (decimal n ++ more) ≡ numeral n more
 numeral_decimal n h =
@@ -51,24 +47,20 @@ record Valued (m : ℕ) (ds : List ℕ) (n : ℕ) : Type 0 where
   pub same : reading m ds ≡ n
   pub small : n ≤ LIMIT
 
-some_same : (m n : ℕ) → Some m ≡ Some n → m ≡ n
-some_same m n e = cc
-
 valued_step : (m b : ℕ) (ds : List ℕ) (n : ℕ) (t : Bool) → (digit b && leb (m * 10 + (b - 48)) LIMIT) ≡ t → (m * 10 + (b - 48) ≤ LIMIT → numeral (m * 10 + (b - 48)) ds ≡ Some n → Valued (m * 10 + (b - 48)) ds n) → cond t (numeral (m * 10 + (b - 48)) ds) None ≡ Some n → Valued m (b ∷ ds) n
 valued_step m b ds n true h next e =
     let both = and_parts (digit b) _ h in
     let v = next (leb-true _ _ both.1) e in
     record { all = (both.0, v.all); digits = rw v.digits (let z = both.0 in grind (arith, nat_tests)); same = v.same; small = v.small }
-valued_step m b ds n false h next e = let z : ◌≡◌ {A = ℕ} 0 1 = cc in absurd (omega arith)
+valued_step m b ds n false h next e = absurd (cc)
 
 valued : (m : ℕ) (ds : List ℕ) (n : ℕ) → m ≤ LIMIT → numeral m ds ≡ Some n → Valued m ds n
-valued m [] n low e = let same = some_same m n e in record { all = tt; digits = refl; same = same; small = omega arith }
+valued m [] n low e = let same : m ≡ n = cc in record { all = tt; digits = refl; same = same; small = omega arith }
 valued m (b ∷ ds) n low e = valued_step m b ds n _ refl (valued (m * 10 + (b - 48)) ds n) e
 
 -- a number of digits alone that begins with 0 is 0
 power_digit : (e : ℕ) → ((e ≡ 101) ⊎ (e ≡ 69)) → digit e ≡ true → ⊥
-power_digit e (inl h) d = absurd (true≢false (sym d ∙ rw h))
-power_digit e (inr h) d = absurd (true≢false (sym d ∙ rw h))
+power_digit e h d = grind (arith, nat_tests)
 
 tail_nil : (f x : List ℕ) → Fraction f → Exponent x → AllByRecursion (λ b. digit b ≡ true) (f ++ x) → length (f ++ x) ≡ 0
 tail_nil f x (inr h) k all = absurd (true≢false (sym (subst (λ l. AllByRecursion (λ b. digit b ≡ true) (l ++ x)) h.2 all).0))
@@ -99,21 +91,21 @@ written_so ds n is some e =
 -- what a call for a number answers
 out_gives : (r : Result ℕ Fault) (b c : Ahead) (n : ℕ) → out (λ v. v) r b ≡ gives n c → r ≡ Ok n
 out_gives (Ok v) b c n e = let same : v ≡ n = cc in ap Ok same
-out_gives (Err f) b c n e = let z : ◌≡◌ {A = ℕ} 0 1 = cc in absurd (omega arith)
+out_gives (Err f) b c n e = absurd (cc)
 
 fit_plain : (ds : List ℕ) (q n : ℕ) (b c : Ahead) (o : Option ℕ) → Number ds → numeral 0 ds ≡ o → gives n b ≡ fit o q c → Plain (token (number ds q) c) n
 fit_plain ds q n b c (Some v) is e h =
     let same : v ≡ n = cc in
     let w = written_so ds n is (number_some ds is) (e ∙ ap Some same) in
     record { place = q; after = c; stands = ap (λ l. token (number l q) c) w.0; small = w.1 }
-fit_plain ds q n b c None is e h = let z : ◌≡◌ {A = ℕ} 0 1 = cc in absurd (omega arith)
+fit_plain ds q n b c None is e h = absurd (cc)
 
 due_plain : (a b : Ahead) (n : ℕ) → ((ds : List ℕ) (q : ℕ) (c : Ahead) → a ≡ token (number ds q) c → Number ds) → gives n b ≡ number_due a → Plain a n
-due_plain (token (name w p) c) b n is h = let z : ◌≡◌ {A = ℕ} 0 1 = cc in absurd (omega arith)
+due_plain (token (name w p) c) b n is h = absurd (cc)
 due_plain (token (number ds q) c) b n is h = fit_plain ds q n b c (numeral 0 ds) (is ds q c refl) refl h
-due_plain (token (sign w p) c) b n is h = let z : ◌≡◌ {A = ℕ} 0 1 = cc in absurd (omega arith)
-due_plain (end p) b n is h = let z : ◌≡◌ {A = ℕ} 0 1 = cc in absurd (omega arith)
-due_plain (none p) b n is h = let z : ◌≡◌ {A = ℕ} 0 1 = cc in absurd (omega arith)
+due_plain (token (sign w p) c) b n is h = absurd (cc)
+due_plain (end p) b n is h = absurd (cc)
+due_plain (none p) b n is h = absurd (cc)
 
 plain_due : (a : Ahead) (n : ℕ) (p : Plain a n) → number_due a ≡ gives n p.after
 plain_due a n p = rw (p.stands, numeral_whole n p.small)

@@ -1,7 +1,5 @@
 -- The kinds of bytes.
 use Rattle.std.specs.Prelude.{ℕ, Bool, ◌&&◌, ◌||◌, ◌==◌, nat_le}
-use Rattle.token.specs.declared.bytes.Class.{Class}
-use Rattle.token.specs.declared.bytes.Class.TheVariants.{White, Letter, Digit}
 
 abbrev pub white : ℕ → Bool
 white b = b == 32 || (b == 9 || (b == 10 || b == 13))
@@ -14,8 +12,3 @@ digit b = nat_le 48 b && nat_le b 57
 
 abbrev pub mark : ℕ → Bool
 mark b = b == 123 || (b == 125 || (b == 91 || (b == 93 || (b == 58 || b == 44))))
-
-abbrev pub takes : Class → ℕ → Bool
-takes White b = white b
-takes Letter b = letter b
-takes Digit b = digit b

@@ -13,8 +13,8 @@ rest (denies n l p a) = a
 -- a call that judges one token
 pub token_falls : {A : Type 0} (k : Tok → Ahead → Out A) → ((t : Tok) (a : Ahead) → rest (k t a) ≡ a) → Falls (λ a. then (step a) k)
 token_falls k keeps (token t a) b x e = let same : size b ≡ size a = ap (λ o. size (rest o)) e ∙ ap size (keeps t a) in omega arith
-token_falls k keeps (end p) b x e = let z : ◌≡◌ {A = ℕ} 0 1 = cc in omega arith
-token_falls k keeps (none p) b x e = let z : ◌≡◌ {A = ℕ} 0 1 = cc in omega arith
+token_falls k keeps (end p) b x e = absurd (cc)
+token_falls k keeps (none p) b x e = absurd (cc)
 
 rest_fit : (o : Option ℕ) (p : ℕ) (a : Ahead) → rest (fit o p a) ≡ a
 rest_fit (Some n) p a = refl
@@ -62,7 +62,7 @@ Stays {A} f = (a b : Ahead) (x : A) → gives x b ≡ f a → size b ≤ size a
 
 then_case : {A B : Type 0} (k : A → Ahead → Out B) (m : ℕ) (o : Out A) → ((x : A) (d : Ahead) → gives x d ≡ o → size d < m) → ((v : A) → Stays (k v)) → (b : Ahead) (y : B) → gives y b ≡ then o k → size b < m
 then_case k m (gives x d) less stays b y e = omega (arith, less x d refl, stays x d b y e)
-then_case k m (denies n l p d) less stays b y e = let z : ◌≡◌ {A = ℕ} 0 1 = cc in omega arith
+then_case k m (denies n l p d) less stays b y e = absurd (cc)
 
 -- one call before others
 pub then_falls : {A B : Type 0} (f : Ahead → Out A) (k : A → Ahead → Out B) → Falls f → ((v : A) → Stays (k v)) → Falls (λ a. then (f a) k)

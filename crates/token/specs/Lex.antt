@@ -1,5 +1,5 @@
 -- How long the token at the front of some bytes is.
-use Rattle.std.specs.Prelude.{ℕ, ◌+◌, cond, ◌&&◌, ◌||◌, List, drop, ◌==◌, nat_lt, slice_index}
+use Rattle.std.specs.Prelude.{ℕ, ◌+◌, cond, Option, None, Some, ◌&&◌, ◌||◌, List, drop, ◌==◌, nat_lt, slice_index}
 use Rattle.std.specs.List.{prefix_len}
 use Rattle.token.specs.Bytes.{digit, letter}
 
@@ -37,3 +37,7 @@ number_len bs = cond (whole_len (drop (sign_len bs) bs) == 0) 0 (sign_len bs + w
 -- a quote, letters and a quote
 abbrev pub name_len : List ℕ → ℕ
 name_len bs = cond (front bs == 34 && (nat_lt 0 (prefix_len letter (drop 1 bs)) && front (drop (1 + prefix_len letter (drop 1 bs)) bs) == 34)) (2 + prefix_len letter (drop 1 bs)) 0
+
+-- a length, or none where it is 0
+abbrev pub some_len : ℕ → Option ℕ
+some_len n = cond (n == 0) None (Some n)

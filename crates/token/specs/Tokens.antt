@@ -1,5 +1,5 @@
 -- The tokens of a text, and what a reader has ahead of it.
-use Rattle.std.specs.Prelude.{ℕ, zero, suc, ◌+◌, ◌-◌, cond, List, [], ◌∷◌, length, take, drop, Ok, Err, Result, ◌==◌, nat_le}
+use Rattle.std.specs.Prelude.{◌≡◌, ℕ, zero, suc, ◌+◌, ◌-◌, cond, List, [], ◌∷◌, length, take, drop, Ok, Err, Result, ◌==◌, nat_le}
 use Rattle.std.specs.List.{between}
 use Rattle.fault.specs.declared.Fault.{Fault}
 use Rattle.fault.specs.declared.Place.{Place}
@@ -23,6 +23,12 @@ abbrev pub view : Token → Tok
 view (Name s p) = name s.now p
 view (Number s p) = number s.now p
 view (Mark s p) = sign s.now p
+
+-- a mark is one byte
+abbrev pub OneByte : Token → Type 0
+OneByte (Name s p) = Unit
+OneByte (Number s p) = Unit
+OneByte (Mark s p) = length s.now ≡ 1
 
 abbrev pub place_of : Tok → ℕ
 place_of (name bs p) = p

@@ -1,17 +1,25 @@
-// How long the token at the front of some bytes is, 0 where there is none.
+// How long the token at the front of some bytes is, and the parts of a number.
 
-ghost use Rattle.std.specs.Prelude.{◌≡◌, ◌≤◌, length};
-ghost use Rattle.token.specs.Lex.{sign_len, whole_len, fraction_len, power_len, exponent_len, tail_len, number_len, name_len};
+ghost use Rattle.std.specs.Prelude.{◌≡◌, ◌≤◌, length, IfSome};
+ghost use Rattle.token.specs.Lex.{digits_len, sign_len, whole_len, fraction_len, power_len, exponent_len, tail_len, number_len, name_len, some_len};
 
-use crate::bytes::{Class, first, past, run_len};
+use crate::bytes::run_len;
 
-fn whole_len(rest: &[u8]) -> usize
-    ensures value { result ≡ whole_len rest.now }
+fn digits_len(rest: &[u8]) -> usize
+    ensures value { result ≡ digits_len rest.now }
     ensures within { result ≤ length rest.now }
 {
-    match first(rest) as char {
-        '0' => 1,
-        _ => run_len(rest, Class::Digit),
+    run_len(rest, |b| b.is_ascii_digit())
+}
+
+fn whole_len(rest: &[u8]) -> Option<usize>
+    ensures value { result ≡ some_len (whole_len rest.now) }
+    ensures within { IfSome result (λ n. n ≤ length rest.now) }
+{
+    match rest {
+        [b'0', ..] => Some(1),
+        [b'1'..=b'9', ..] => Some(digits_len(rest)),
+        _ => None,
     }
 }
 
@@ -19,10 +27,10 @@ fn fraction_len(rest: &[u8]) -> usize
     ensures value { result ≡ fraction_len rest.now }
     ensures within { result ≤ length rest.now }
 {
-    if first(rest) as char != '.' {
+    let [b'.', more @ ..] = rest else {
         return 0;
-    }
-    let n = run_len(past(rest, 1), Class::Digit);
+    };
+    let n = digits_len(more);
     if n > 0 { 1 + n } else { 0 }
 }
 
@@ -30,11 +38,9 @@ fn power_len(rest: &[u8]) -> usize
     ensures value { result ≡ power_len rest.now }
     ensures within { result ≤ length rest.now }
 {
-    match first(rest) as char {
-        'e' | 'E' => match first(past(rest, 1)) as char {
-            '+' | '-' => 2,
-            _ => 1,
-        },
+    match rest {
+        [b'e' | b'E', b'+' | b'-', ..] => 2,
+        [b'e' | b'E', ..] => 1,
         _ => 0,
     }
 }
@@ -44,7 +50,7 @@ fn exponent_len(rest: &[u8]) -> usize
     ensures within { result ≤ length rest.now }
 {
     let power = power_len(rest);
-    let n = run_len(past(rest, power), Class::Digit);
+    let n = digits_len(&rest[power..]);
     if power > 0 && n > 0 { power + n } else { 0 }
 }
 
@@ -53,42 +59,38 @@ fn tail_len(rest: &[u8]) -> usize
     ensures within { result ≤ length rest.now }
 {
     let fraction = fraction_len(rest);
-    fraction + exponent_len(past(rest, fraction))
+    fraction + exponent_len(&rest[fraction..])
 }
 
 fn sign_len(rest: &[u8]) -> usize
     ensures value { result ≡ sign_len rest.now }
     ensures within { result ≤ length rest.now }
 {
-    match first(rest) as char {
-        '-' => 1,
+    match rest {
+        [b'-', ..] => 1,
         _ => 0,
     }
 }
 
-pub(crate) fn number_len(rest: &[u8]) -> usize
-    ensures value { result ≡ number_len rest.now }
-    ensures within { result ≤ length rest.now }
+pub(crate) fn number_len(rest: &[u8]) -> Option<usize>
+    ensures value { result ≡ some_len (number_len rest.now) }
+    ensures within { IfSome result (λ n. n ≤ length rest.now) }
 {
     let sign = sign_len(rest);
-    let whole = whole_len(past(rest, sign));
-    if whole == 0 {
-        return 0;
-    }
-    sign + whole + tail_len(past(rest, sign + whole))
+    let whole = whole_len(&rest[sign..])?;
+    Some(sign + whole + tail_len(&rest[sign + whole..]))
 }
 
-pub(crate) fn name_len(rest: &[u8]) -> usize
-    ensures value { result ≡ name_len rest.now }
-    ensures within { result ≤ length rest.now }
+pub(crate) fn name_len(rest: &[u8]) -> Option<usize>
+    ensures value { result ≡ some_len (name_len rest.now) }
+    ensures within { IfSome result (λ n. (2 ≤ n) × (n ≤ length rest.now)) }
 {
-    if first(rest) as char != '"' {
-        return 0;
-    }
-    let n = run_len(past(rest, 1), Class::Letter);
-    if n > 0 && first(past(rest, 1 + n)) as char == '"' {
-        2 + n
-    } else {
-        0
+    let [b'"', more @ ..] = rest else {
+        return None;
+    };
+    let n = run_len(more, |b| b.is_ascii_lowercase());
+    match &more[n..] {
+        [b'"', ..] if n > 0 => Some(n + 2),
+        _ => None,
     }
 }

@@ -1,20 +1,22 @@
 // The calls of a reader. Each passes the token that it judges, also when it refuses it.
 
-ghost use Rattle.std.specs.Prelude.{◌≡◌};
+ghost use Rattle.std.specs.Prelude.{◌≡◌, ◌+◌, ◌≤◌, length, drop, IfOk};
+ghost use Rattle.std.specs.List.{prefix_len};
 ghost use Rattle.fault.specs.Faults.{outcome};
 ghost use Rattle.fault.specs.declared.Place.TheVariants.{Byte};
-ghost use Rattle.token.specs.Tokens.{text_of, at, out, step, view, place_of, tokens, admitted};
+ghost use Rattle.token.specs.Bytes.{white};
+ghost use Rattle.token.specs.Tokens.{text_of, at, out, step, view, OneByte, place_of, tokens, admitted};
 ghost use Rattle.token.specs.Plain.{ReadsPlain};
 ghost use Rattle.token.specs.Layout.{AsLaidOut, WasLaidOut};
 ghost use Rattle.token.specs.Grammar.{numeral, mark_due, name_due, number_due, comma_due, member_due, mark_next, past_mark, is_end, end_due};
 
-use crate::bytes::{Class, first, is_in, past, run_len};
+use crate::bytes::{is_white, run_len};
 use crate::lex::{name_len, number_len};
 use crate::{Reader, Token};
 use fault::{Fault, Place, Refusal};
 
 // The longest text and the greatest number that are read.
-const LONGEST: usize = 65_536;
+pub const LONGEST: usize = 65_536;
 
 const GREATEST: u64 = 1_000_000_000_000_000;
 
@@ -34,10 +36,10 @@ fn value_of(bytes: &[u8]) -> Option<u64>
 {
     let mut n: u64 = 0;
     for b in bytes {
-        if !is_in(Class::Digit, *b) {
+        if !b.is_ascii_digit() {
             return None;
         }
-        n = n * 10 + (*b - b'0') as u64;
+        n = n * 10 + u64::from(*b - b'0');
         if n > GREATEST {
             return None;
         }
@@ -78,37 +80,40 @@ impl<'a> Reader<'a> {
         Reader { text, place: 0 }
     }
 
+    // The place of the next byte that is not white.
+    fn start(&self) -> usize
+        ensures value { result ≡ self.now.place + prefix_len white (drop self.now.place self.now.text.now) }
+        ensures within { result ≤ length self.now.text.now }
+    {
+        self.place + run_len(&self.text[self.place..], is_white)
+    }
+
     // The next token.
     pub fn next(&mut self) -> Result<Token<'a>, Fault>
         ensures same { text_of self.new ≡ text_of self.old }
         ensures reads { out view result (at self.new) ≡ step (at self.old) }
+        ensures marked { IfOk result OneByte }
     {
+        let start = self.start();
         let text = self.text;
-        let start = self.place + run_len(past(text, self.place), Class::White);
-        let rest = past(text, start);
-        if rest.is_empty() {
+        let rest = &text[start..];
+        let Some(first) = rest.first() else {
             return Err(at_byte(Refusal::OtherTokenDue, start));
-        }
-        match rest[0] as char {
+        };
+        match *first as char {
             '{' | '}' | '[' | ']' | ':' | ',' => {
                 self.place = start + 1;
-                Ok(Token::Mark(&rest[0..1], start))
+                Ok(Token::Mark(&rest[..1], start))
             }
             '"' => {
-                let n = name_len(rest);
-                if n == 0 {
-                    return Err(at_byte(Refusal::NoToken, start));
-                }
+                let n = name_len(rest).ok_or(at_byte(Refusal::NoToken, start))?;
                 self.place = start + n;
                 Ok(Token::Name(&rest[1..n - 1], start))
             }
             _ => {
-                let n = number_len(rest);
-                if n == 0 {
-                    return Err(at_byte(Refusal::NoToken, start));
-                }
+                let n = number_len(rest).ok_or(at_byte(Refusal::NoToken, start))?;
                 self.place = start + n;
-                Ok(Token::Number(&rest[0..n], start))
+                Ok(Token::Number(&rest[..n], start))
             }
         }
     }
@@ -119,16 +124,8 @@ impl<'a> Reader<'a> {
         ensures reads { out (λ _. tt) result (at self.new) ≡ mark_due due (at self.old) }
     {
         match self.next()? {
-            Token::Mark(bytes, place) => {
-                if first(bytes) as char == due {
-                    Ok(())
-                } else {
-                    Err(at_byte(Refusal::OtherTokenDue, place))
-                }
-            }
-            Token::Name(_, place) | Token::Number(_, place) => {
-                Err(at_byte(Refusal::OtherTokenDue, place))
-            }
+            Token::Mark(bytes, _) if bytes[0] as char == due => Ok(()),
+            other => Err(at_byte(Refusal::OtherTokenDue, other.place())),
         }
     }
 
@@ -138,16 +135,8 @@ impl<'a> Reader<'a> {
         ensures reads { out (λ _. tt) result (at self.new) ≡ name_due word.now (at self.old) }
     {
         match self.next()? {
-            Token::Name(bytes, place) => {
-                if bytes == word {
-                    Ok(())
-                } else {
-                    Err(at_byte(Refusal::OtherTokenDue, place))
-                }
-            }
-            Token::Mark(_, place) | Token::Number(_, place) => {
-                Err(at_byte(Refusal::OtherTokenDue, place))
-            }
+            Token::Name(bytes, _) if bytes == word => Ok(()),
+            other => Err(at_byte(Refusal::OtherTokenDue, other.place())),
         }
     }
 
@@ -158,13 +147,10 @@ impl<'a> Reader<'a> {
         ensures plain { ReadsPlain (at self.old) result }
     {
         match self.next()? {
-            Token::Number(bytes, place) => match value_of(bytes) {
-                Some(n) => Ok(n),
-                None => Err(at_byte(Refusal::NumberUnfit, place)),
-            },
-            Token::Mark(_, place) | Token::Name(_, place) => {
-                Err(at_byte(Refusal::OtherTokenDue, place))
+            Token::Number(bytes, place) => {
+                value_of(bytes).ok_or(at_byte(Refusal::NumberUnfit, place))
             }
+            other => Err(at_byte(Refusal::OtherTokenDue, other.place())),
         }
     }
 
@@ -174,19 +160,9 @@ impl<'a> Reader<'a> {
         ensures reads { out (λ n. n) result (at self.new) ≡ comma_due close (at self.old) }
     {
         match self.next()? {
-            Token::Mark(bytes, place) => {
-                let c = first(bytes) as char;
-                if c == ',' {
-                    Ok(true)
-                } else if c == close {
-                    Ok(false)
-                } else {
-                    Err(at_byte(Refusal::OtherTokenDue, place))
-                }
-            }
-            Token::Number(_, place) | Token::Name(_, place) => {
-                Err(at_byte(Refusal::OtherTokenDue, place))
-            }
+            Token::Mark(bytes, _) if bytes[0] as char == ',' => Ok(true),
+            Token::Mark(bytes, _) if bytes[0] as char == close => Ok(false),
+            other => Err(at_byte(Refusal::OtherTokenDue, other.place())),
         }
     }
 
@@ -206,14 +182,10 @@ impl<'a> Reader<'a> {
         ensures after { at self.new ≡ past_mark sought (at self.old) }
     {
         let before = self.place;
-        match self.next() {
-            Ok(Token::Mark(bytes, _)) => {
-                if first(bytes) as char == sought {
-                    return true;
-                }
-            }
-            Ok(_) => {}
-            Err(_) => {}
+        if let Ok(Token::Mark(bytes, _)) = self.next()
+            && bytes[0] as char == sought
+        {
+            return true;
         }
         self.place = before;
         false
@@ -223,8 +195,7 @@ impl<'a> Reader<'a> {
     fn at_end(&self) -> bool
         ensures { result ≡ is_end (at self.now) }
     {
-        let rest = past(self.text, self.place);
-        run_len(rest, Class::White) == rest.len()
+        self.start() == self.text.len()
     }
 
     // Only white space is left.

@@ -1,13 +1,9 @@
-use Rattle.std.proofs.Common.{sym, arith}
-use Rattle.std.proofs.lemmas.List.Sums.{prefix_len-drop_yes, prefix_len-drop_no, prefix_len-drop_all}
-use Rattle.token.specs.Bytes.{takes}
+use Rattle.std.proofs.Common.{rules, ◌∙◌}
+use Rattle.std.proofs.lemmas.Iterator.{YieldsList-from_slice}
+use Rattle.std.proofs.lemmas.Iterator.Consumers.{count_from_yields_List}
+use Rattle.std.proofs.lemmas.Iterator.Search.{YieldsList-from_take_while}
+use Rattle.std.proofs.lemmas.List.Folds.{length-prefix_len}
 use Rattle.token.proofs.bytes.run_len.Goals as goal
 
-pub loop-n-preserved : goal.loop-n-preserved
-loop-n-preserved c = (omega arith, omega (arith, prefix_len-drop_yes (takes c.args.class) c.args.rest.now c.loop-n.n 0 c.loop-n-test.true (sym c.if-is_in.ensures)))
-
-pub returns-else-is_in : goal.returns-else-is_in
-returns-else-is_in c = record { value = omega (arith, prefix_len-drop_no (takes c.args.class) c.args.rest.now c.loop-n.n 0 c.loop-n-test.true (sym c.if-is_in.ensures)); within = c.loop-n.invariant.0 }
-
-pub returns-after-loop-n : goal.returns-after-loop-n
-returns-after-loop-n c = record { value = omega (arith, prefix_len-drop_all (takes c.args.class) c.args.rest.now c.loop-n.n c.loop-n-test.false); within = c.loop-n.invariant.0 }
+pub returns-clause-value : goal.returns-clause-value
+returns-clause-value g c = λ p h. count_from_yields_List c.take_while.result _ c.count.ensures.ran (YieldsList-from_take_while _ p (YieldsList-from_slice c.args.rest.now (cc)) c.take_while.ensures.closure c.take_while.ensures.done (λ x b q k. search (rules, h))) ∙ length-prefix_len p c.args.rest.now
