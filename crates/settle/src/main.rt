@@ -2,7 +2,7 @@
 
 // Reads a text from standard input, and prints one line for each of its objects.
 
-ghost use Rattle.std.specs.Prelude.{◌≡◌, take, IfOk, IfSome};
+ghost use Rattle.std.specs.Prelude.{◌≡◌, take, IfOk, IfSome, option_map};
 
 use line::{Answer, LONGEST, write_line};
 use std::alloc::Global;
@@ -11,11 +11,11 @@ use std::io::{Read, Write};
 use text::Workspace;
 
 // The longest text, and one byte more: a longer one is told by that byte.
-const ROOM: usize = 65_537;
+const ROOM: usize = token::LONGEST + 1;
 
 // The text that the input holds, up to its end or to the byte that tells a longer one.
 fn fill<R: Read + Drop>(input: R, heap: Global) -> io::Result<Vec<u8>>
-    ensures { IfOk result (λ text. IfSome (R.remaining input) (λ bytes. text.items ≡ take 65537 bytes)) }
+    ensures { IfOk result (λ text. IfSome (option_map (take 65537) (R.remaining input)) (λ bytes. text.items ≡ bytes)) }
 {
     let mut text = Vec::with_capacity(heap, ROOM)?;
     input.take(ROOM as u64).read_to_end(&mut text)?;

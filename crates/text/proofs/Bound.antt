@@ -7,7 +7,7 @@ use Rattle.token.specs.Bytes.{white}
 use Rattle.token.specs.Tokens.{Ahead, none, token_len, ahead, tokens, admitted}
 use Rattle.token.specs.Grammar.{size}
 
-either : (t : Bool) (a b : Ahead) (m : ℕ) → size a ≤ m → size b ≤ m → size (cond t a b) ≤ m
+pub either : (t : Bool) (a b : Ahead) (m : ℕ) → size a ≤ m → size b ≤ m → size (cond t a b) ≤ m
 either true a b m p q = p
 either false a b m p q = q
 

@@ -1,5 +1,5 @@
 -- The turns of the loop over the objects after the first.
-use Rattle.std.proofs.Common.{◌≡◌, ℕ, zero, suc, ◌<◌, true, false, List, [], ◌∷◌, ◌++◌, map, Ok, Err, Result, sym, refl, ap, ◌∙◌, subst, append_assoc, arith}
+use Rattle.std.proofs.Common.{◌≡◌, ℕ, zero, suc, ◌<◌, true, false, List, [], ◌∷◌, ◌++◌, map, Ok, Err, Result, sym, ap, ◌∙◌, subst, append_assoc, arith}
 use Rattle.std.proofs.lemmas.List.{append-nil, map_push}
 use Rattle.fault.specs.declared.Fault.{Fault}
 use Rattle.fault.specs.declared.Place.{Place}
@@ -22,9 +22,6 @@ pub record Saying (had : List Said) (v : View) (start : Ahead) (said : List Said
   pub fuel : ℕ
   pub more : size a < fuel
   pub same : said ++ later fuel w a ≡ had ++ later_objects v start
-
-pub begins : (had : List Said) (w : View) (a : Ahead) → Saying had w a had w a
-begins had w a = record { fuel = suc (size a); more = omega arith; same = refl }
 
 -- one answer more
 pub noted : (had : List (Result Standing Fault)) (x : Result Standing Fault) (all : List (Result Standing Fault)) → all ≡ had ++ x ∷ [] → map outcome all ≡ map outcome had ++ outcome x ∷ []

@@ -1,5 +1,5 @@
-pub mod Shrinks
 pub mod Bound
+pub mod Shrinks
 pub mod Items
 pub mod Later
 pub mod Back

@@ -7,6 +7,7 @@ use Rattle.text.specs.declared.asks.Ask.{Ask}
 use Rattle.text.specs.declared.asks.Ask.TheVariants.{Open, Begin}
 use Rattle.text.specs.Records.{field_due, next_field_due, opening_due, added_due, step_due, items, list_due, rows_due, object_due, model_due, scale_due, run_due}
 use Rattle.text.specs.RowFalls.{cond_stays, added_falls, step_falls}
+use Rattle.text.proofs.Bound.{either}
 
 items_stays : {A : Type 0} (f : Ahead → Out A) → Falls f → (k : ℕ) (got : List A) → Stays (items f k got)
 unfolding items
@@ -17,10 +18,6 @@ one_stays : (a : Ahead) → size (past_one a) ≤ size a
 one_stays (token t a) = omega arith
 one_stays (end p) = omega arith
 one_stays (none p) = omega arith
-
-either : (t : Bool) (a b : Ahead) (m : ℕ) → size a ≤ m → size b ≤ m → size (cond t a b) ≤ m
-either true a b m p q = p
-either false a b m p q = q
 
 pub past_stays : (c : ℕ) (a : Ahead) → size (past_mark c a) ≤ size a
 past_stays c a = either (mark_next c a) (past_one a) a (size a) (one_stays a) (omega arith)

@@ -7,7 +7,7 @@ ghost use Rattle.token.specs.Grammar.{size};
 ghost use Rattle.case.specs.Views.{view};
 ghost use Rattle.text.specs.Documents.{ended, later_objects, first_object};
 
-use crate::performing::{perform, renew};
+use crate::performing::perform;
 use crate::workspace::Workspace;
 use fault::Fault;
 use token::Reader;
@@ -34,7 +34,7 @@ impl Workspace {
         ensures fits { vec_len self.new.answers ≤ 65536 }
     {
         self.rows.model(reader)?;
-        renew(&mut self.case);
+        self.case.renew();
         let answer = perform(&mut self.case, &self.rows.asks);
         self.answers.push_reserved(answer);
         if answer.is_err() {

@@ -4,11 +4,9 @@ ghost use Rattle.std.specs.Prelude.{◌≡◌};
 ghost use Rattle.fault.specs.Faults.{outcome};
 ghost use Rattle.fault.specs.declared.Place.TheVariants.{Row};
 ghost use Rattle.case.specs.Views.{view};
-ghost use Rattle.case.specs.Calls.{new_case};
 ghost use Rattle.text.specs.Calls.{asked, after, said_from, case_from};
 
 use crate::asks::Ask;
-use automaton::Opening;
 use case::Case;
 use fault::{Fault, Place};
 use line::Answer;
@@ -46,17 +44,4 @@ pub(crate) fn perform(case: &mut Case, asks: &[Ask]) -> Answer
         make(case, *ask).map_err(|fault| in_row(fault, i as u64))?;
     }
     Ok(case.standing())
-}
-
-// Makes the case new: whatever it held is gone.
-pub(crate) fn renew(case: &mut Case)
-    ensures { view case.new ≡ new_case }
-{
-    let _ = case.open(Opening {
-        states: 1,
-        start: 0,
-        target: 0,
-        labels: 0,
-        clocks: 0,
-    });
 }

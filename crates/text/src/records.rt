@@ -131,6 +131,8 @@ fn scale(reader: &mut Reader<'_>) -> Result<u64, Fault>
     field(reader, b"scale")
 }
 
+// Each call asks for the room that it needs: no type has it, since it depends on the tokens that the
+// reader still has ahead.
 impl Rows {
     // One row or more, up to the end of their list. They come after the rows that are held.
     fn rows_on<R: Row>(&mut self, reader: &mut Reader<'_>) -> Result<(), Fault>

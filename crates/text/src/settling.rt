@@ -1,10 +1,8 @@
 // A text is settled: read from its first byte to its last, with an answer noted for each object.
 
-ghost use Rattle.std.specs.Prelude.{◌≡◌, ◌+◌, ◌≤◌, [], ◌++◌, map, IfOk, vec_len};
+ghost use Rattle.std.specs.Prelude.{◌≡◌, ◌≤◌, [], map, IfOk, vec_len};
 ghost use Rattle.fault.specs.Faults.{outcome};
-ghost use Rattle.token.specs.Tokens.{at};
-ghost use Rattle.token.specs.Grammar.{size};
-ghost use Rattle.text.specs.Documents.{ended, document, settled_text};
+ghost use Rattle.text.specs.Documents.{ended, settled_text};
 ghost use Rattle.text.specs.Written.{AsWritten};
 
 use crate::rows::Rows;
@@ -13,10 +11,7 @@ use case::Case;
 use fault::Fault;
 use line::Answer;
 use std::alloc::{AllocError, Global};
-use token::{Reader, admit};
-
-// The longest text that is read has so many bytes, and no more tokens.
-const LONGEST: usize = 65_536;
+use token::{LONGEST, Reader, admit};
 
 impl Workspace {
     // All room is taken here, so settling a text cannot fail for want of memory.
@@ -24,6 +19,7 @@ impl Workspace {
         ensures { IfOk result (λ w. w.answers.items ≡ []) }
     {
         let case = Case::new(heap)?;
+        // A text has no more tokens than bytes; a row takes one, and so does an answer but for the last.
         let asks = Vec::with_capacity(heap, LONGEST)?;
         let answers = Vec::with_capacity(heap, LONGEST + 1)?;
         Ok(Workspace {
@@ -33,19 +29,7 @@ impl Workspace {
         })
     }
 
-    // All objects, in brackets.
-    fn array(&mut self, reader: &mut Reader<'_>) -> Result<(), Fault>
-        requires { vec_len self.old.answers + size (at reader.old) ≤ 65536 }
-        ensures says { ended result (map outcome self.new.answers.items) ≡ map outcome self.old.answers.items ++ document (at reader.old) }
-        ensures fits { vec_len self.new.answers ≤ 65536 }
-    {
-        reader.mark('[')?;
-        if reader.passes(']') {
-            return reader.end();
-        }
-        self.objects(reader)
-    }
-
+    // Reads a text, which is an array of objects, and notes their answers.
     fn read(&mut self, text: &[u8]) -> Result<(), Fault>
         requires none { self.old.answers.items ≡ [] }
         requires zero { vec_len self.old.answers ≡ 0 }
@@ -53,7 +37,12 @@ impl Workspace {
         ensures fits { vec_len self.new.answers ≤ 65536 }
     {
         admit(text)?;
-        self.array(&mut Reader::new(text))
+        let mut reader = Reader::new(text);
+        reader.mark('[')?;
+        if reader.passes(']') {
+            return reader.end();
+        }
+        self.objects(&mut reader)
     }
 
     // Settles a text of any bytes and any length. A document comes to the same, however it is laid
