@@ -1,13 +1,13 @@
 -- The lines that a program prints.
-use Rattle.std.specs.Prelude.{◌≡◌, ℕ, ◌+◌, cond, List, [], ◌∷◌, ◌++◌, length, take, drop, Some, None, codes, decimal, Option, nat_le}
+use Rattle.std.specs.Prelude.{ℕ, cond, List, [], ◌∷◌, ◌++◌, length, drop, Some, None, Ok, Err, codes, decimal, Option, Result, nat_le}
 use Rattle.fault.specs.declared.Fault.{Fault}
 use Rattle.fault.specs.declared.Layer.{Layer}
 use Rattle.fault.specs.declared.Layer.TheVariants.{Text, Record, Case, Evidence}
 use Rattle.fault.specs.declared.Place.{Place}
 use Rattle.fault.specs.declared.Place.TheVariants.{Byte, Row, Table}
 use Rattle.fault.specs.Faults.{number, layer}
-use Rattle.line.specs.declared.Answer.{Answer}
-use Rattle.line.specs.declared.Answer.TheVariants.{Undecided, Reachable, Unreachable, Refused}
+use Rattle.case.specs.declared.case.Standing.{Standing}
+use Rattle.case.specs.declared.case.Standing.TheVariants.{Undecided, Reachable, Unreachable}
 
 abbrev pub layer_word : Layer → List ℕ
 layer_word Text = codes "text"
@@ -29,14 +29,17 @@ places (Table e r u) = spaced e ++ spaced r ++ spaced u
 abbrev pub refusal_words : Fault → List ℕ
 refusal_words f = codes "refused" ++ spaced (number f.refusal) ++ codes " " ++ layer_word (layer f.refusal) ++ places f.place
 
-abbrev pub words : Answer → List ℕ
-words Undecided = codes "undecided"
-words Reachable = codes "reachable"
-words Unreachable = codes "unreachable"
-words (Refused f) = refusal_words f
+abbrev pub standing_word : Standing → List ℕ
+standing_word Undecided = codes "undecided"
+standing_word Reachable = codes "reachable"
+standing_word Unreachable = codes "unreachable"
+
+abbrev pub words : Result Standing Fault → List ℕ
+words (Ok s) = standing_word s
+words (Err f) = refusal_words f
 
 -- the whole line, with the line feed that ends it
-abbrev pub rendered : Answer → List ℕ
+abbrev pub rendered : Result Standing Fault → List ℕ
 rendered a = words a ++ 10 ∷ []
 
 -- how many bytes are written: all or none
@@ -46,9 +49,3 @@ written word line = cond (nat_le (length word) (length line)) (Some (length word
 -- the line with word at its front, or as it was where it is too short
 abbrev pub overwritten : List ℕ → List ℕ → List ℕ
 overwritten word line = cond (nat_le (length word) (length line)) (word ++ drop (length word) line) line
-
--- the line holds word from a place on, and else what it held
-pub record Put (was : List ℕ) (from : ℕ) (word : List ℕ) (now : List ℕ) (to : ℕ) : Type 0 where
-  pub ends : to ≡ from + length word
-  pub front : take to now ≡ take from was ++ word
-  pub back : drop to now ≡ drop to was

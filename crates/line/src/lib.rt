@@ -2,122 +2,86 @@
 
 // Writes an answer as a line of words and numbers into a lent buffer.
 
-ghost use Rattle.std.specs.Prelude.{◌≡◌, ◌+◌, ◌<◌, ◌≤◌, [], ◌∷◌, length, decimal};
-ghost use Rattle.line.specs.Lines.{layer_word, spaced, places, refusal_words, words, rendered, written, overwritten, Put};
+ghost use Rattle.std.specs.Prelude.{◌≡◌, ◌+◌, ◌≤◌, ◌++◌};
+ghost use Rattle.arrayvec.specs.ArrayString.{array_string_len};
+ghost use Rattle.line.specs.Lines.{layer_word, standing_word, spaced, places, rendered, written, overwritten};
 
+use arrayvec::ArrayString;
+use case::Standing;
 use fault::{Fault, Layer, Place};
+use itoa::Buffer;
 
 // What an object came to: the standing, or the fault that refused it.
-#[derive(Clone, Copy)]
-pub enum Answer {
-    Undecided,
-    Reachable,
-    Unreachable,
-    Refused(Fault),
-}
+pub type Answer = Result<Standing, Fault>;
 
 // No line is longer.
-const LONGEST: usize = 101;
+pub const LONGEST: usize = 101;
 
-// Each of the functions below writes at `from`, and returns the place after what it wrote.
-fn put(line: &mut [u8], from: usize, word: &[u8]) -> usize
-    requires { from + length word.now ≤ length line.old }
-    ensures { Put line.old from word.now line.new result }
-{
-    let to = from + word.len();
-    line[from..to].copy_from_slice(word);
-    to
-}
+type Line = ArrayString<LONGEST>;
 
-fn put_digit(line: &mut [u8], from: usize, d: u64) -> usize
-    requires from_in_bounds { from < length line.old }
-    requires d_bound { d < 10 }
-    ensures { Put line.old from ((48 + d) ∷ []) line.new result }
-{
-    line[from] = b'0' + d as u8;
-    from + 1
-}
-
-fn put_number(line: &mut [u8], from: usize, n: u64) -> usize
-    requires { from + length (decimal n) ≤ length line.old }
-    ensures { Put line.old from (decimal n) line.new result }
-{
-    if n < 10 {
-        return put_digit(line, from, n);
-    }
-    let at = put_number(line, from, n / 10);
-    put_digit(line, at, n % 10)
-}
-
-fn put_spaced(line: &mut [u8], from: usize, n: u64) -> usize
-    requires { from + 21 ≤ length line.old }
-    ensures puts { Put line.old from (spaced n) line.new result }
-    ensures short { result ≤ from + 21 }
-{
-    let at = put(line, from, b" ");
-    put_number(line, at, n)
-}
-
-fn put_layer(line: &mut [u8], from: usize, layer: Layer) -> usize
-    requires { from + 8 ≤ length line.old }
-    ensures puts { Put line.old from (layer_word layer) line.new result }
-    ensures short { result ≤ from + 8 }
+fn layer_word(layer: Layer) -> &'static str
+    ensures { result.now ≡ layer_word layer }
 {
     match layer {
-        Layer::Text => put(line, from, b"text"),
-        Layer::Record => put(line, from, b"record"),
-        Layer::Case => put(line, from, b"case"),
-        Layer::Evidence => put(line, from, b"evidence"),
+        Layer::Text => "text",
+        Layer::Record => "record",
+        Layer::Case => "case",
+        Layer::Evidence => "evidence",
     }
 }
 
-fn put_places(line: &mut [u8], from: usize, place: Place) -> usize
-    requires { from + 63 ≤ length line.old }
-    ensures puts { Put line.old from (places place) line.new result }
-    ensures short { result ≤ from + 63 }
+fn standing_word(standing: Standing) -> &'static str
+    ensures { result.now ≡ standing_word standing }
+{
+    match standing {
+        Standing::Undecided => "undecided",
+        Standing::Reachable => "reachable",
+        Standing::Unreachable => "unreachable",
+    }
+}
+
+// Appends a space and the number.
+fn put_spaced(line: &mut Line, n: u64)
+    requires { array_string_len line.old + 21 ≤ 101 }
+    ensures puts { line.new.bytes ≡ line.old.bytes ++ spaced n }
+    ensures short { array_string_len line.new ≤ array_string_len line.old + 21 }
+{
+    line.push_str(" ");
+    line.push_str(Buffer::new().format(n));
+}
+
+fn put_places(line: &mut Line, place: Place)
+    requires { array_string_len line.old + 63 ≤ 101 }
+    ensures puts { line.new.bytes ≡ line.old.bytes ++ places place }
+    ensures short { array_string_len line.new ≤ array_string_len line.old + 63 }
 {
     match place {
-        Place::Byte(n) | Place::Row(n) => put_spaced(line, from, n),
+        Place::Byte(n) | Place::Row(n) => put_spaced(line, n),
         Place::Table { entry, rule, above } => {
-            let at = put_spaced(line, from, entry);
-            let at = put_spaced(line, at, rule);
-            put_spaced(line, at, above)
+            put_spaced(line, entry);
+            put_spaced(line, rule);
+            put_spaced(line, above);
         }
     }
 }
 
-fn put_refused(line: &mut [u8], fault: Fault) -> usize
-    requires { 100 ≤ length line.old }
-    ensures puts { Put line.old 0 (refusal_words fault) line.new result }
-    ensures short { result ≤ 100 }
+// The whole line, in a buffer of its own.
+fn render(answer: Answer) -> Line
+    ensures { result.bytes ≡ rendered answer }
 {
-    let word = put(line, 0, b"refused");
-    let number = put_spaced(line, word, fault.refusal.number() as u64);
-    let space = put(line, number, b" ");
-    let named = put_layer(line, space, fault.refusal.layer());
-    put_places(line, named, fault.place)
-}
-
-fn put_words(line: &mut [u8], answer: Answer) -> usize
-    requires { 100 ≤ length line.old }
-    ensures puts { Put line.old 0 (words answer) line.new result }
-    ensures short { result ≤ 100 }
-{
+    let mut line = Line::new();
     match answer {
-        Answer::Undecided => put(line, 0, b"undecided"),
-        Answer::Reachable => put(line, 0, b"reachable"),
-        Answer::Unreachable => put(line, 0, b"unreachable"),
-        Answer::Refused(fault) => put_refused(line, fault),
+        Ok(standing) => line.push_str(standing_word(standing)),
+        Err(fault) => {
+            line.push_str("refused");
+            put_spaced(&mut line, fault.refusal.number() as u64);
+            line.push_str(" ");
+            line.push_str(layer_word(fault.refusal.layer()));
+            put_places(&mut line, fault.place);
+        }
     }
-}
-
-fn put_line(line: &mut [u8], answer: Answer) -> usize
-    requires { 101 ≤ length line.old }
-    ensures puts { Put line.old 0 (rendered answer) line.new result }
-    ensures short { result ≤ 101 }
-{
-    let at = put_words(line, answer);
-    put(line, at, b"\n")
+    line.push_str("\n");
+    line
 }
 
 // Writes the answer's line at the front of the buffer, and returns how long it is. A buffer that
@@ -126,12 +90,11 @@ pub fn write_line(line: &mut [u8], answer: Answer) -> Option<usize>
     ensures value { result ≡ written (rendered answer) line.old }
     ensures after { line.new ≡ overwritten (rendered answer) line.old }
 {
-    let mut whole = [0; LONGEST];
-    let n = put_line(&mut whole, answer);
-    if n > line.len() {
-        return None;
-    }
-    Some(put(line, 0, &whole[0..n]))
+    let whole = render(answer);
+    let bytes = whole.as_bytes();
+    let (front, _) = line.split_at_mut_checked(bytes.len())?;
+    front.copy_from_slice(bytes);
+    Some(bytes.len())
 }
 
 #[cfg(test)]
@@ -158,29 +121,24 @@ mod tests {
             refusal: Refusal::NotClosed,
             place,
         };
-        assert!(rt; is_line(Answer::Refused(table), b"refused 22 evidence 0 64 2048\n"));
+        assert!(rt; is_line(Err(table), b"refused 22 evidence 0 64 2048\n"));
         let text = Fault {
             refusal: Refusal::NoToken,
             place: Place::Byte(u64::MAX),
         };
-        assert!(rt;
-            is_line(
-                Answer::Refused(text),
-                b"refused 23 text 18446744073709551615\n",
-            )
-        );
+        assert!(rt; is_line(Err(text), b"refused 23 text 18446744073709551615\n"));
         let row = Fault {
             refusal: Refusal::RuleTableFull,
             place: Place::Row(65),
         };
-        assert!(rt; is_line(Answer::Refused(row), b"refused 3 case 65\n"));
-        assert!(rt; is_line(Answer::Unreachable, b"unreachable\n"));
+        assert!(rt; is_line(Err(row), b"refused 3 case 65\n"));
+        assert!(rt; is_line(Ok(Standing::Unreachable), b"unreachable\n"));
     }
 
     #[test]
     fn too_short(rt: HostRuntime) {
         let mut buffer = [7; 9];
-        assert!(rt; write_line(&mut buffer, Answer::Undecided) == None);
+        assert!(rt; write_line(&mut buffer, Ok(Standing::Undecided)) == None);
         assert!(rt; &buffer == &[7; 9]);
     }
 }

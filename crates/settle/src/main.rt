@@ -2,47 +2,38 @@
 
 // Reads a text from standard input, and prints one line for each of its objects.
 
-ghost use Rattle.std.specs.Prelude.{◌≤◌, length, IfOk};
+ghost use Rattle.std.specs.Prelude.{◌≡◌, take, IfOk, IfSome, option_map};
 
-use line::{Answer, write_line};
+use line::{Answer, LONGEST, write_line};
+use std::alloc::Global;
 use std::io;
 use std::io::{Read, Write};
 use text::Workspace;
 
 // The longest text, and one byte more: a longer one is told by that byte.
-const ROOM: usize = 65_537;
+const ROOM: usize = token::LONGEST + 1;
 
-// No line is longer.
-const LINE: usize = 101;
-
-// Fills the buffer from the input, up to its end.
-fn fill<R: Read>(input: &mut R, text: &mut [u8]) -> io::Result<usize>
-    ensures { IfOk result (λ n. n ≤ length text.old) }
+// The text that the input holds, up to its end or to the byte that tells a longer one.
+fn fill<R: Read + Drop>(input: R, heap: Global) -> io::Result<Vec<u8>>
+    ensures { IfOk result (λ text. IfSome (option_map (take 65537) (R.remaining input)) (λ bytes. text.items ≡ bytes)) }
 {
-    let mut n = 0;
-    while n < text.len() {
-        let more = input.read(&mut text[n..])?;
-        if more == 0 {
-            break;
-        }
-        n += more;
-    }
-    Ok(n)
+    let mut text = Vec::with_capacity(heap, ROOM)?;
+    input.take(ROOM as u64).read_to_end(&mut text)?;
+    Ok(text)
 }
 
 fn say<W: Write>(out: &mut W, answer: Answer) -> io::Result<()> {
-    let mut line = [0u8; LINE];
+    let mut line = [0u8; LONGEST];
     match write_line(&mut line, answer) {
-        Some(n) => out.write_all(&line[0..n]),
+        Some(n) => out.write_all(&line[..n]),
         None => Ok(()),
     }
 }
 
 fn settle(rt: &HostRuntime) -> anyhow::Result<()> {
-    let mut text = [0u8; ROOM];
-    let n = fill(&mut rt.stdin(), &mut text)?;
+    let text = fill(rt.stdin(), rt.alloc())?;
     let mut workspace = Workspace::new(rt.alloc())?;
-    workspace.settle(&text[0..n]);
+    workspace.settle(&text);
     let mut out = rt.stdout();
     for answer in workspace.answers() {
         say(&mut out, *answer)?;

@@ -1,18 +1,19 @@
 -- The turns of the loop over the objects after the first.
-use Rattle.std.proofs.Common.{◌≡◌, ℕ, zero, suc, ◌<◌, true, false, List, [], ◌∷◌, ◌++◌, map, Ok, Err, Result, sym, refl, ap, ◌∙◌, subst, append_assoc, arith}
+use Rattle.std.proofs.Common.{◌≡◌, ℕ, zero, suc, ◌<◌, true, false, List, [], ◌∷◌, ◌++◌, map, Ok, Err, Result, sym, ap, ◌∙◌, subst, append_assoc, arith}
 use Rattle.std.proofs.lemmas.List.{append-nil, map_push}
 use Rattle.fault.specs.declared.Fault.{Fault}
 use Rattle.fault.specs.declared.Place.{Place}
 use Rattle.fault.specs.declared.Layer.{Layer}
+use Rattle.fault.specs.Faults.{outcome}
+use Rattle.fault.specs.Faults.Outcome.{refused}
 use Rattle.token.specs.Tokens.{Ahead, Out, gives, denies, out}
 use Rattle.token.specs.Grammar.{comma_due, end_due, size}
 use Rattle.token.specs.Falls.{comma_falls}
 use Rattle.case.specs.Views.{View}
-use Rattle.text.specs.Calls.{Said, shown, said_from, case_from}
-use Rattle.text.specs.Calls.Said.{denied}
+use Rattle.text.specs.Calls.{Said, said_from, case_from}
 use Rattle.text.specs.Records.{run_due}
 use Rattle.text.specs.Documents.{read, at_end, later, later_objects, ended}
-use Rattle.line.specs.declared.Answer.{Answer}
+use Rattle.case.specs.declared.case.Standing.{Standing}
 use Rattle.text.specs.declared.asks.Ask.{Ask}
 use Rattle.text.proofs.Shrinks.{run_falls}
 
@@ -22,12 +23,9 @@ pub record Saying (had : List Said) (v : View) (start : Ahead) (said : List Said
   pub more : size a < fuel
   pub same : said ++ later fuel w a ≡ had ++ later_objects v start
 
-pub begins : (had : List Said) (w : View) (a : Ahead) → Saying had w a had w a
-begins had w a = record { fuel = suc (size a); more = omega arith; same = refl }
-
 -- one answer more
-pub noted : (had : List Answer) (x : Answer) (all : List Answer) → all ≡ had ++ x ∷ [] → (s : Said) → shown x ≡ s → map shown all ≡ map shown had ++ s ∷ []
-noted had x all e s p = ap (map shown) e ∙ map_push shown had x ∙ ap (λ t. map shown had ++ t ∷ []) p
+pub noted : (had : List (Result Standing Fault)) (x : Result Standing Fault) (all : List (Result Standing Fault)) → all ≡ had ++ x ∷ [] → map outcome all ≡ map outcome had ++ outcome x ∷ []
+noted had x all e = ap (map outcome) e ∙ map_push outcome had x
 
 -- the end of the text comes last
 pub ended_by : (r : Result (Unit {0}) Fault) (a : Ahead) (o : Out (Unit {0})) (said : List Said) → out (λ _. tt) r a ≡ o → ended r said ≡ said ++ read o (λ _ _. [])
@@ -35,12 +33,12 @@ ended_by (Ok u) a o said e = rw (← e) (sym (append-nil said))
 ended_by (Err f) a o said e = rw (← e)
 
 module _ (had : List Said) (v : View) (start : Ahead) (said : List Said) (w : View) (a : Ahead) where
-  no_comma : (k : ℕ) → size a < k → (n : ℕ) (l : Layer) (p : Place) (b : Ahead) → denies n l p b ≡ comma_due 93 a → denied n l p ∷ [] ≡ later k w a
+  no_comma : (k : ℕ) → size a < k → (n : ℕ) (l : Layer) (p : Place) (b : Ahead) → denies n l p b ≡ comma_due 93 a → refused n l p ∷ [] ≡ later k w a
   unfolding later
   no_comma zero h n l p b e = absurd (omega arith)
   no_comma (suc k) h n l p b e = rw (← e)
 
-  no_run : (k : ℕ) → size a < k → (b : Ahead) → gives true b ≡ comma_due 93 a → (n : ℕ) (l : Layer) (p : Place) (d : Ahead) → denies n l p d ≡ run_due b → denied n l p ∷ [] ≡ later k w a
+  no_run : (k : ℕ) → size a < k → (b : Ahead) → gives true b ≡ comma_due 93 a → (n : ℕ) (l : Layer) (p : Place) (d : Ahead) → denies n l p d ≡ run_due b → refused n l p ∷ [] ≡ later k w a
   unfolding later
   no_run zero h b q n l p d e = absurd (omega arith)
   no_run (suc k) h b q n l p d e = rw (← q, ← e)
@@ -60,11 +58,11 @@ module _ (had : List Said) (v : View) (start : Ahead) (said : List Said) (w : Vi
   }
 
   -- what follows an object is refused
-  pub cut : Saying had v start said w a → (n : ℕ) (l : Layer) (p : Place) (b : Ahead) → denies n l p b ≡ comma_due 93 a → said ++ denied n l p ∷ [] ≡ had ++ later_objects v start
+  pub cut : Saying had v start said w a → (n : ℕ) (l : Layer) (p : Place) (b : Ahead) → denies n l p b ≡ comma_due 93 a → said ++ refused n l p ∷ [] ≡ had ++ later_objects v start
   cut g n l p b e = ap (λ s. said ++ s) (no_comma g.fuel g.more n l p b e) ∙ g.same
 
   -- the next object is refused as it is read
-  pub broken : Saying had v start said w a → (b : Ahead) → gives true b ≡ comma_due 93 a → (n : ℕ) (l : Layer) (p : Place) (d : Ahead) → denies n l p d ≡ run_due b → said ++ denied n l p ∷ [] ≡ had ++ later_objects v start
+  pub broken : Saying had v start said w a → (b : Ahead) → gives true b ≡ comma_due 93 a → (n : ℕ) (l : Layer) (p : Place) (d : Ahead) → denies n l p d ≡ run_due b → said ++ refused n l p ∷ [] ≡ had ++ later_objects v start
   broken g b q n l p d e = ap (λ s. said ++ s) (no_run g.fuel g.more b q n l p d e) ∙ g.same
 
   -- the array ends, and so must the text
@@ -76,8 +74,8 @@ module _ (had : List Said) (v : View) (start : Ahead) (said : List Said) (w : Vi
   goes g b q asks d e = one_more g.fuel g.more b q asks d e g.same
 
 -- the same of the answers and of the rows as the code holds them
-pub turn : (had : List Said) (v : View) (start : Ahead) (old : List Answer) (w : View) (a : Ahead) → Saying had v start (map shown old) w a → (b : Ahead) → gives true b ≡ comma_due 93 a → (asks : List Ask) (d : Ahead) → gives asks d ≡ run_due b → (rows : List Ask) → rows ≡ asks → (x : Answer) → shown x ≡ said_from 0 rows w → (u : View) → u ≡ case_from rows w → (all : List Answer) → all ≡ old ++ x ∷ [] → Saying had v start (map shown all) u d
+pub turn : (had : List Said) (v : View) (start : Ahead) (old : List (Result Standing Fault)) (w : View) (a : Ahead) → Saying had v start (map outcome old) w a → (b : Ahead) → gives true b ≡ comma_due 93 a → (asks : List Ask) (d : Ahead) → gives asks d ≡ run_due b → (rows : List Ask) → rows ≡ asks → (x : Result Standing Fault) → outcome x ≡ said_from 0 rows w → (u : View) → u ≡ case_from rows w → (all : List (Result Standing Fault)) → all ≡ old ++ x ∷ [] → Saying had v start (map outcome all) u d
 turn had v start old w a g b q asks d e rows same x says u is all put =
-    let words : map shown all ≡ map shown old ++ said_from 0 asks w ∷ [] = noted old x all put (said_from 0 asks w) (says ∙ ap (λ r. said_from 0 r w) same) in
+    let words : map outcome all ≡ map outcome old ++ said_from 0 asks w ∷ [] = noted old x all put ∙ ap (λ t. map outcome old ++ t ∷ []) (says ∙ ap (λ r. said_from 0 r w) same) in
     let view-is : u ≡ case_from asks w = is ∙ ap (λ r. case_from r w) same in
-    subst (λ s. Saying had v start s u d) (sym words) (subst (λ z. Saying had v start (map shown old ++ said_from 0 asks w ∷ []) z d) (sym view-is) (goes had v start (map shown old) w a g b q asks d e))
+    subst (λ s. Saying had v start s u d) (sym words) (subst (λ z. Saying had v start (map outcome old ++ said_from 0 asks w ∷ []) z d) (sym view-is) (goes had v start (map outcome old) w a g b q asks d e))

@@ -1,8 +1,6 @@
-pub mod Shrinks
 pub mod Bound
-pub mod Rows
-pub mod Turns
+pub mod Shrinks
+pub mod Items
 pub mod Later
-pub mod First
 pub mod Back
 pub mod Reading

@@ -8,19 +8,18 @@ use Rattle.automaton.specs.declared.rule.RuleNumbers.{RuleNumbers}
 use Rattle.case.specs.Views.{View}
 use Rattle.case.specs.Calls.{new_case}
 use Rattle.token.specs.Tokens.{Ahead, end, Out, gives, tokens}
-use Rattle.token.specs.Grammar.{then, mark_due, number_due, comma_due, member_due, mark_next, size}
+use Rattle.token.specs.Grammar.{then, mark_due, number_due, comma_due, member_due, mark_next, size, Falls}
 use Rattle.token.specs.Falls.{comma_falls}
 use Rattle.token.specs.Layout.{Piece, word, punct, Laid, written, tokens_of}
 use Rattle.token.proofs.Layouts.{as_laid_out}
 use Rattle.text.specs.declared.asks.Ask.{Ask}
 use Rattle.text.specs.declared.asks.Ask.TheVariants.{Open, Add, Begin, Delay, Fire}
-use Rattle.text.specs.declared.asks.Kind.{Kind}
-use Rattle.text.specs.declared.asks.Kind.TheVariants.{Rules, Steps}
-use Rattle.text.specs.Records.{field_due, next_field_due, next_number_due, opening_due, rule_due, step_due, row_due, items, rows_due, object_due, model_due, scale_due, run_due}
+use Rattle.text.specs.Records.{field_due, next_field_due, next_number_due, opening_due, rule_due, added_due, step_due, items, rows_due, object_due, model_due, scale_due, run_due}
+use Rattle.text.specs.RowFalls.{added_falls, step_falls}
 use Rattle.text.specs.Calls.{Said, said_from, case_from}
 use Rattle.text.specs.Documents.{later, first_said, document, settled_text}
 use Rattle.text.specs.Written.{Step, waits, fires, Run, Document, step_ask, model_asks, run_asks, runs_said, document_said, amount, next_amount, member_pieces, field_pieces, next_field_pieces, rule_pieces, step_pieces, items_pieces, list_pieces, opening_pieces, rows_pieces, model_pieces, run_pieces, runs_pieces, document_pieces, Small, SmallRule, SmallOpening, SmallStep, SmallRun, AsWritten}
-use Rattle.text.proofs.Shrinks.{row_falls, run_falls}
+use Rattle.text.proofs.Shrinks.{run_falls}
 use Rattle.text.proofs.Back.{Shows, shows_append, Reads, reads_then, reads_gives, reads_mark, reads_name, reads_number, reads_more, reads_close}
 
 reads_member : (w : List ℕ) → bytes_eq w w ≡ true → Reads (member_due w) (member_pieces w) tt
@@ -60,14 +59,14 @@ reads_opening o h =
     (reads_then (next_field_due (codes "clocks")) _ (next_field_pieces (codes "clocks") o.clocks) [] _ _ (reads_next_field (codes "clocks") refl o.clocks h.4)
     (reads_gives o))))))
 
--- a row of a kind begins with a bracket
-pub record Rowed {A : Type 0} (kind : Kind) (show : A → List Piece) (value : A → Ask) (Good : A → Type 0) : Type 0 where
+-- a row begins with a bracket
+pub record Rowed {A : Type 0} (row : Ahead → Out Ask) (show : A → List Piece) (value : A → Ask) (Good : A → Type 0) : Type 0 where
   pub tail : A → List Piece
   pub opens : (v : A) → show v ≡ punct 91 ∷ tail v
-  pub back : (v : A) → Good v → Reads (row_due kind) (show v) (value v)
+  pub back : (v : A) → Good v → Reads row (show v) (value v)
 
-module _ {A : Type 0} (kind : Kind) (show : A → List Piece) (value : A → Ask) (Good : A → Type 0) (rowed : Rowed kind show value Good) where
-  items_back : (v : A) (vs : List A) (k : ℕ) (got : List Ask) (a b : Ahead) → size a < k → Good v → AllByRecursion Good vs → Shows (items_pieces show v vs) a b → items (row_due kind) k got a ≡ gives (got ++ value v ∷ map value vs) b
+module _ {A : Type 0} (row : Ahead → Out Ask) (falls : Falls row) (show : A → List Piece) (value : A → Ask) (Good : A → Type 0) (rowed : Rowed row show value Good) where
+  items_back : (v : A) (vs : List A) (k : ℕ) (got : List Ask) (a b : Ahead) → size a < k → Good v → AllByRecursion Good vs → Shows (items_pieces show v vs) a b → items row k got a ≡ gives (got ++ value v ∷ map value vs) b
   unfolding items
   items_back v vs zero got a b less fit fits s = absurd (omega arith)
   items_back v [] (suc k) got a b less fit fits s =
@@ -78,7 +77,7 @@ module _ {A : Type 0} (kind : Kind) (show : A → List Piece) (value : A → Ask
       let one = (rowed.back v fit).back a r.0 r.1 in
       let two : comma_due 93 r.0 ≡ gives true r.2.1 = reads_more.back r.0 r.2.1 (r.2.0, r.2.1, r.2.2, refl) in
       rw (one, two)
-      (items_back w vs k (got ++ value v ∷ []) r.2.1 b (omega (arith, row_falls kind a r.0 (value v) (sym one), comma_falls 93 r.0 r.2.1 true (sym two))) fits.0 fits.1 r.2.3
+      (items_back w vs k (got ++ value v ∷ []) r.2.1 b (omega (arith, falls a r.0 (value v) (sym one), comma_falls 93 r.0 r.2.1 true (sym two))) fits.0 fits.1 r.2.3
       ∙ ap (λ l. gives l b) (append_assoc got (value v ∷ []) (value w ∷ map value vs)))
 
   -- the first token of a list that is not empty
@@ -92,16 +91,16 @@ module _ {A : Type 0} (kind : Kind) (show : A → List Piece) (value : A → Ask
       let t : Shows (punct 91 ∷ o.0) a b = subst (λ ks. Shows ks a b) o.1 s in
       rw t.2
 
-  rows_back : (got : List Ask) (vs : List A) → AllByRecursion Good vs → Reads (rows_due kind got) (list_pieces show vs) (got ++ map value vs)
+  rows_back : (got : List Ask) (vs : List A) → AllByRecursion Good vs → Reads (rows_due row got) (list_pieces show vs) (got ++ map value vs)
   rows_back got [] fits = reads_then (mark_due 91) _ (punct 91 ∷ []) (punct 93 ∷ []) _ _ (reads_mark 91) (record { back = λ a b s. rw (s.2, s.3) (ap (λ l. gives l b) (sym (append-nil got))) })
   rows_back got (v ∷ vs) fits = reads_then (mark_due 91) _ (punct 91 ∷ []) (items_pieces show v vs) _ _ (reads_mark 91) (record { back = λ a b s. rw (not_closed v vs a b s) (items_back v vs (suc (size a)) got a b (omega arith) fits.0 fits.1 s) })
 
-  pub object_back : (head : Ask) (w : List ℕ) → bytes_eq w w ≡ true → (vs : List A) → AllByRecursion Good vs → Reads (object_due head w kind) (rows_pieces w show vs) (head ∷ map value vs)
+  pub object_back : (head : Ask) (w : List ℕ) → bytes_eq w w ≡ true → (vs : List A) → AllByRecursion Good vs → Reads (object_due head w row) (rows_pieces w show vs) (head ∷ map value vs)
   object_back head w e vs fits =
       reads_then (mark_due 44) _ (punct 44 ∷ []) _ _ _ (reads_mark 44) (reads_then (member_due w) _ (member_pieces w) _ _ _ (reads_member w e)
-      (reads_then (rows_due kind (head ∷ [])) _ (list_pieces show vs) _ _ _ (rows_back (head ∷ []) vs fits) (reads_then (mark_due 125) _ (punct 125 ∷ []) [] _ _ (reads_mark 125) (reads_gives (head ∷ map value vs)))))
+      (reads_then (rows_due row (head ∷ [])) _ (list_pieces show vs) _ _ _ (rows_back (head ∷ []) vs fits) (reads_then (mark_due 125) _ (punct 125 ∷ []) [] _ _ (reads_mark 125) (reads_gives (head ∷ map value vs)))))
 
-rules_rowed : Rowed Rules rule_pieces Add SmallRule
+rules_rowed : Rowed added_due rule_pieces Add SmallRule
 rules_rowed = record {
   tail = λ n. amount n.from ∷ next_amount n.to ++ (next_amount n.kind ++ (next_amount n.argument ++ (next_amount n.lower ++ (next_amount n.lower_flag ++ (next_amount n.upper ++ (next_amount n.upper_flag ++ punct 93 ∷ []))))));
   opens = λ n. refl;
@@ -116,17 +115,17 @@ step_opens : (s : Step) → step_pieces s ≡ punct 91 ∷ step_tail s
 step_opens (waits d) = refl
 step_opens (fires k v) = refl
 
-steps_rowed : Rowed Steps step_pieces step_ask SmallStep
+steps_rowed : Rowed step_due step_pieces step_ask SmallStep
 steps_rowed = record { tail = step_tail; opens = step_opens; back = reads_step }
 
 model_back : (o : Opening) (ns : List RuleNumbers) → SmallOpening o → AllByRecursion SmallRule ns → Reads model_due (model_pieces o ns) (model_asks o ns)
-model_back o ns h hs = reads_then opening_due _ (opening_pieces o) _ _ _ (reads_opening o h) (object_back Rules rule_pieces Add SmallRule rules_rowed (Open o) (codes "rules") refl ns hs)
+model_back o ns h hs = reads_then opening_due _ (opening_pieces o) _ _ _ (reads_opening o h) (object_back added_due added_falls rule_pieces Add SmallRule rules_rowed (Open o) (codes "rules") refl ns hs)
 
 scale_back : (n : ℕ) → Small n → Reads scale_due (punct 123 ∷ field_pieces (codes "scale") n) n
 scale_back n h = reads_then (mark_due 123) _ (punct 123 ∷ []) _ _ _ (reads_mark 123) (reads_field (codes "scale") refl n h)
 
 run_back : (r : Run) → SmallRun r → Reads run_due (run_pieces r) (run_asks r)
-run_back r h = reads_then scale_due _ (punct 123 ∷ field_pieces (codes "scale") r.scale) _ _ _ (scale_back r.scale h.scale) (object_back Steps step_pieces step_ask SmallStep steps_rowed (Begin r.scale) (codes "run") refl r.steps h.steps)
+run_back r h = reads_then scale_due _ (punct 123 ∷ field_pieces (codes "scale") r.scale) _ _ _ (scale_back r.scale h.scale) (object_back step_due step_falls step_pieces step_ask SmallStep steps_rowed (Begin r.scale) (codes "run") refl r.steps h.steps)
 
 later_back : (rs : List Run) → AllByRecursion SmallRun rs → (k : ℕ) (w : View) (a : Ahead) (q : ℕ) → size a < k → Shows (runs_pieces rs) a (end q) → later k w a ≡ runs_said w rs
 unfolding later

@@ -1,30 +1,18 @@
 -- What the calls of an object come to.
 use Rattle.std.specs.Prelude.{ℕ, ◌+◌, List, [], ◌∷◌}
-use Rattle.fault.specs.declared.Place.{Place}
 use Rattle.fault.specs.declared.Place.TheVariants.{Row}
-use Rattle.fault.specs.declared.Layer.{Layer}
-use Rattle.fault.specs.Faults.{Outcome, number, layer}
+use Rattle.fault.specs.Faults.{Outcome}
 use Rattle.fault.specs.Faults.Outcome.{accepted, refused}
-use Rattle.line.specs.declared.Answer.{Answer}
-use Rattle.line.specs.declared.Answer.TheVariants.{Undecided, Reachable, Unreachable, Refused}
 use Rattle.automaton.specs.Edits.{open_outcome, add_outcome}
 use Rattle.case.specs.declared.case.Standing.{Standing}
-use Rattle.case.specs.declared.case.Standing.TheVariants as standing
 use Rattle.case.specs.Views.{View}
 use Rattle.case.specs.Calls.{void, open_view, add_view, begin_outcome, begin_after, delay_outcome, delay_after, fire_outcome, fire_after}
 use Rattle.text.specs.declared.asks.Ask.{Ask}
 use Rattle.text.specs.declared.asks.Ask.TheVariants.{Open, Add, Begin, Delay, Fire}
 
 -- what is said of an object: the standing, or the number, the layer and the place of a refusal
-pub data Said : Type 0 where
-  word : Standing → Said
-  denied : ℕ → Layer → Place → Said
-
-abbrev pub shown : Answer → Said
-shown Undecided = word standing.Undecided
-shown Reachable = word standing.Reachable
-shown Unreachable = word standing.Unreachable
-shown (Refused f) = denied (number f.refusal) (layer f.refusal) f.place
+abbrev pub Said : Type 0
+Said = Outcome Standing
 
 -- whether a call is accepted by a case, and what the case holds after it
 abbrev pub asked : Ask → View → Outcome (Unit {0})
@@ -44,11 +32,11 @@ after (Fire k v) w = fire_after k v w
 -- the calls go on after one that is accepted; a refusal is said with its row
 abbrev pub unless_refused : Outcome (Unit {0}) → ℕ → Said → Said
 unless_refused (accepted u) k s = s
-unless_refused (refused n l p) k s = denied n l (Row k)
+unless_refused (refused n l p) k s = refused n l (Row k)
 
 -- what is said of an object whose calls these are, the first of them being row k
 abbrev pub said_from : ℕ → List Ask → View → Said
-said_from k [] w = word w.standing
+said_from k [] w = accepted w.standing
 said_from k (c ∷ cs) w = unless_refused (asked c w) k (said_from (k + 1) cs (after c w))
 
 -- the case goes on from later, or is left as now by a refusal

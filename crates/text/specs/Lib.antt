@@ -1,4 +1,5 @@
 pub mod Records
+pub mod RowFalls
 pub mod Calls
 pub mod Documents
 pub mod Written

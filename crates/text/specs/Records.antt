@@ -6,8 +6,6 @@ use Rattle.token.specs.Tokens.{Ahead, Out, gives, other_due}
 use Rattle.token.specs.Grammar.{then, mark_due, number_due, comma_due, member_due, mark_next, past_mark, size}
 use Rattle.text.specs.declared.asks.Ask.{Ask}
 use Rattle.text.specs.declared.asks.Ask.TheVariants.{Open, Add, Begin, Delay, Fire}
-use Rattle.text.specs.declared.asks.Kind.{Kind}
-use Rattle.text.specs.declared.asks.Kind.TheVariants.{Rules, Steps}
 
 -- `"w": number`
 abbrev pub field_due : List ℕ → Ahead → Out ℕ
@@ -33,13 +31,13 @@ rule_due a =
     then (next_number_due a) (λ r a. then (next_number_due a) (λ s a. then (next_number_due a) (λ t a. then (next_number_due a) (λ u a. then (mark_due 93 a) (λ _ a.
     gives (record { from = n; to = o; kind = p; argument = q; lower = r; lower_flag = s; upper = t; upper_flag = u }) a))))))))))
 
+-- the same, as what it asks for
+abbrev pub added_due : Ahead → Out Ask
+added_due a = then (rule_due a) (λ n b. gives (Add n) b)
+
 -- a row of a delay, or of a rule and a value
 abbrev pub step_due : Ahead → Out Ask
 step_due a = then (mark_due 91 a) (λ _ a. then (number_due a) (λ n a. then (comma_due 93 a) (λ more a. cond more (then (number_due a) (λ v a. then (mark_due 93 a) (λ _ a. gives (Fire n v) a))) (gives (Delay n) a))))
-
-abbrev pub row_due : Kind → Ahead → Out Ask
-row_due Rules a = then (rule_due a) (λ n b. gives (Add n) b)
-row_due Steps a = step_due a
 
 -- items, each followed by a comma or by the bracket that ends the list, after those that are got. Each takes
 -- a token, so k items are enough for k tokens
@@ -51,16 +49,16 @@ abbrev pub list_due : {A : Type 0} → (Ahead → Out A) → List A → Ahead �
 list_due f got a = items f (suc (size a)) got a
 
 -- a list of rows in brackets, which may be empty
-abbrev pub rows_due : Kind → List Ask → Ahead → Out (List Ask)
-rows_due kind got a = then (mark_due 91 a) (λ _ b. cond (mark_next 93 b) (gives got (past_mark 93 b)) (list_due (row_due kind) got b))
+abbrev pub rows_due : (Ahead → Out Ask) → List Ask → Ahead → Out (List Ask)
+rows_due row got a = then (mark_due 91 a) (λ _ b. cond (mark_next 93 b) (gives got (past_mark 93 b)) (list_due row got b))
 
 -- the rest of an object after its head: the member w with its rows, and a brace
-abbrev pub object_due : Ask → List ℕ → Kind → Ahead → Out (List Ask)
-object_due head w kind a = then (mark_due 44 a) (λ _ a. then (member_due w a) (λ _ a. then (rows_due kind (head ∷ []) a) (λ asks a. then (mark_due 125 a) (λ _ a. gives asks a))))
+abbrev pub object_due : Ask → List ℕ → (Ahead → Out Ask) → Ahead → Out (List Ask)
+object_due head w row a = then (mark_due 44 a) (λ _ a. then (member_due w a) (λ _ a. then (rows_due row (head ∷ []) a) (λ asks a. then (mark_due 125 a) (λ _ a. gives asks a))))
 
 -- the first object: a model and its rules
 abbrev pub model_due : Ahead → Out (List Ask)
-model_due a = then (opening_due a) (λ o b. object_due (Open o) (codes "rules") Rules b)
+model_due a = then (opening_due a) (λ o b. object_due (Open o) (codes "rules") added_due b)
 
 -- a brace and the scale
 abbrev pub scale_due : Ahead → Out ℕ
@@ -68,4 +66,4 @@ scale_due a = then (mark_due 123 a) (λ _ b. field_due (codes "scale") b)
 
 -- a later object: a run and its steps
 abbrev pub run_due : Ahead → Out (List Ask)
-run_due a = then (scale_due a) (λ n b. object_due (Begin n) (codes "run") Steps b)
+run_due a = then (scale_due a) (λ n b. object_due (Begin n) (codes "run") step_due b)

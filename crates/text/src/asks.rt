@@ -11,10 +11,3 @@ pub enum Ask {
     Delay(u64),
     Fire(u64, u64),
 }
-
-// Which rows a list has: rules, or the steps of a run.
-#[derive(Clone, Copy)]
-pub(crate) enum Kind {
-    Rules,
-    Steps,
-}

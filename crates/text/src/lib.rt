@@ -6,6 +6,7 @@ mod asks;
 mod objects;
 mod performing;
 mod records;
+mod rows;
 mod settling;
 mod workspace;
 

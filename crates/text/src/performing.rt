@@ -1,28 +1,15 @@
 // The calls of an object, made on a case.
 
 ghost use Rattle.std.specs.Prelude.{◌≡◌};
-ghost use Rattle.fault.specs.Faults.{outcome, number, layer};
+ghost use Rattle.fault.specs.Faults.{outcome};
 ghost use Rattle.fault.specs.declared.Place.TheVariants.{Row};
 ghost use Rattle.case.specs.Views.{view};
-ghost use Rattle.case.specs.Calls.{void, new_case};
-ghost use Rattle.text.specs.Calls.{shown, asked, after, said_from, case_from};
-ghost use Rattle.text.specs.Calls.Said.{word, denied};
+ghost use Rattle.text.specs.Calls.{asked, after, said_from, case_from};
 
 use crate::asks::Ask;
-use automaton::Opening;
-use case::{Case, Standing};
+use case::Case;
 use fault::{Fault, Place};
 use line::Answer;
-
-// The outcome without the state that the run is in.
-fn done(r: Result<u8, Fault>) -> Result<(), Fault>
-    ensures { outcome result ≡ void (outcome r) }
-{
-    match r {
-        Ok(_) => Ok(()),
-        Err(fault) => Err(fault),
-    }
-}
 
 fn make(case: &mut Case, ask: Ask) -> Result<(), Fault>
     ensures answer { outcome result ≡ asked ask (view case.old) }
@@ -31,56 +18,30 @@ fn make(case: &mut Case, ask: Ask) -> Result<(), Fault>
     match ask {
         Ask::Open(opening) => case.open(opening),
         Ask::Add(numbers) => case.add(numbers),
-        Ask::Begin(scale) => done(case.begin(scale)),
-        Ask::Delay(units) => done(case.delay(units)),
-        Ask::Fire(rule, value) => done(case.fire(rule, value)),
+        Ask::Begin(scale) => case.begin(scale).map(|_| ()),
+        Ask::Delay(units) => case.delay(units).map(|_| ()),
+        Ask::Fire(rule, value) => case.fire(rule, value).map(|_| ()),
     }
 }
 
-fn stands(standing: Standing) -> Answer
-    ensures { shown result ≡ word standing }
+// The fault with its row put in.
+fn in_row(fault: Fault, row: u64) -> Fault
+    ensures { result ≡ record { refusal = fault.refusal; place = Row row } }
 {
-    match standing {
-        Standing::Undecided => Answer::Undecided,
-        Standing::Reachable => Answer::Reachable,
-        Standing::Unreachable => Answer::Unreachable,
-    }
-}
-
-// The refusal with the row put in.
-fn refused(fault: Fault, row: u64) -> Answer
-    ensures { shown result ≡ denied (number fault.refusal) (layer fault.refusal) (Row row) }
-{
-    Answer::Refused(Fault {
-        refusal: fault.refusal,
+    Fault {
         place: Place::Row(row),
-    })
+        ..fault
+    }
 }
 
 // Makes the calls in order. The first that is refused is answered with its row and ends them; what
 // the calls before it did stays.
 pub(crate) fn perform(case: &mut Case, asks: &[Ask]) -> Answer
-    ensures answer { shown result ≡ said_from 0 asks.now (view case.old) }
+    ensures answer { outcome result ≡ said_from 0 asks.now (view case.old) }
     ensures after { view case.new ≡ case_from asks.now (view case.old) }
 {
-    for i in 0..asks.len() {
-        match make(case, asks[i]) {
-            Ok(()) => {}
-            Err(fault) => return refused(fault, i as u64),
-        }
+    for (i, ask) in asks.iter().enumerate() {
+        make(case, *ask).map_err(|fault| in_row(fault, i as u64))?;
     }
-    stands(case.standing())
-}
-
-// Makes the case new: whatever it held is gone.
-pub(crate) fn renew(case: &mut Case)
-    ensures { view case.new ≡ new_case }
-{
-    let _ = case.open(Opening {
-        states: 1,
-        start: 0,
-        target: 0,
-        labels: 0,
-        clocks: 0,
-    });
+    Ok(case.standing())
 }

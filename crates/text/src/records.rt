@@ -1,12 +1,15 @@
 // The objects of a text, read as the calls that they ask for. Each function passes the tokens that
 // it reads, and refuses the first that is not due.
 
-ghost use Rattle.std.specs.Prelude.{◌≡◌, ◌+◌, ◌≤◌, vec_len, vec_capacity};
-ghost use Rattle.token.specs.Tokens.{at, out};
-ghost use Rattle.token.specs.Grammar.{size};
-ghost use Rattle.text.specs.Records.{field_due, next_field_due, next_number_due, opening_due, rule_due, step_due, row_due, list_due, rows_due, object_due, model_due, scale_due, run_due};
+ghost use Rattle.std.specs.Prelude.{◌≡◌, ◌+◌, ◌≤◌, vec_len};
+ghost use Rattle.token.specs.Tokens.{Ahead, Out, at, out};
+ghost use Rattle.token.specs.Grammar.{size, Falls};
+ghost use Rattle.text.specs.Records.{field_due, next_field_due, next_number_due, opening_due, rule_due, added_due, step_due, list_due, rows_due, object_due, model_due, scale_due, run_due};
+ghost use Rattle.text.specs.RowFalls.{added_falls, step_falls};
+ghost use Rattle.text.specs.declared.asks.Ask.{Ask};
 
-use crate::asks::{Ask, Kind};
+use crate::asks::Ask;
+use crate::rows::Rows;
 use automaton::{Opening, RuleNumbers};
 use fault::Fault;
 use token::Reader;
@@ -53,7 +56,7 @@ fn opening(reader: &mut Reader<'_>) -> Result<Opening, Fault>
 }
 
 // A row of exactly eight numbers.
-fn rule_row(reader: &mut Reader<'_>) -> Result<RuleNumbers, Fault>
+fn rule(reader: &mut Reader<'_>) -> Result<RuleNumbers, Fault>
     ensures { out (λ n. n) result (at reader.new) ≡ rule_due (at reader.old) }
 {
     reader.mark('[')?;
@@ -78,85 +81,46 @@ fn rule_row(reader: &mut Reader<'_>) -> Result<RuleNumbers, Fault>
     })
 }
 
+// The rows of a list. Each takes a token at least.
+pub(crate) trait Row {
+    ghost due: { Ahead → Out Ask };
+
+    ghost falls: { Falls due };
+
+    fn read(reader: &mut Reader<'_>) -> Result<Ask, Fault>
+        ensures { out (λ s. s) result (at reader.new) ≡ due (at reader.old) };
+}
+
+pub(crate) struct RuleRow;
+
+impl Row for RuleRow {
+    ghost due = { added_due };
+
+    ghost falls = { added_falls };
+
+    fn read(reader: &mut Reader<'_>) -> Result<Ask, Fault> {
+        rule(reader).map(Ask::Add)
+    }
+}
+
 // A row of a delay, or of a rule and a value.
-fn step_row(reader: &mut Reader<'_>) -> Result<Ask, Fault>
-    ensures { out (λ s. s) result (at reader.new) ≡ step_due (at reader.old) }
-{
-    reader.mark('[')?;
-    let first = reader.number()?;
-    if !reader.comma(']')? {
-        return Ok(Ask::Delay(first));
-    }
-    let value = reader.number()?;
-    reader.mark(']')?;
-    Ok(Ask::Fire(first, value))
-}
+pub(crate) struct StepRow;
 
-fn row(reader: &mut Reader<'_>, kind: Kind) -> Result<Ask, Fault>
-    ensures { out (λ s. s) result (at reader.new) ≡ row_due kind (at reader.old) }
-{
-    match kind {
-        Kind::Rules => Ok(Ask::Add(rule_row(reader)?)),
-        Kind::Steps => step_row(reader),
-    }
-}
+impl Row for StepRow {
+    ghost due = { step_due };
 
-// One row or more, up to the end of their list. They come after the rows that are held.
-fn rows_on(reader: &mut Reader<'_>, kind: Kind, rows: &mut Vec<Ask>) -> Result<(), Fault>
-    requires { vec_len rows.old + size (at reader.old) ≤ vec_capacity rows.old }
-    ensures reads { out (λ _. rows.new.items) result (at reader.new) ≡ list_due (row_due kind) rows.old.items (at reader.old) }
-    ensures room { vec_capacity rows.new ≡ vec_capacity rows.old }
-{
-    loop {
-        let ask = row(reader, kind)?;
-        rows.push_reserved(ask);
+    ghost falls = { step_falls };
+
+    fn read(reader: &mut Reader<'_>) -> Result<Ask, Fault> {
+        reader.mark('[')?;
+        let first = reader.number()?;
         if !reader.comma(']')? {
-            return Ok(());
+            return Ok(Ask::Delay(first));
         }
+        let value = reader.number()?;
+        reader.mark(']')?;
+        Ok(Ask::Fire(first, value))
     }
-}
-
-// A list of rows, which may be empty.
-fn list(reader: &mut Reader<'_>, kind: Kind, rows: &mut Vec<Ask>) -> Result<(), Fault>
-    requires { vec_len rows.old + size (at reader.old) ≤ vec_capacity rows.old }
-    ensures reads { out (λ _. rows.new.items) result (at reader.new) ≡ rows_due kind rows.old.items (at reader.old) }
-    ensures room { vec_capacity rows.new ≡ vec_capacity rows.old }
-{
-    reader.mark('[')?;
-    if reader.passes(']') {
-        return Ok(());
-    }
-    rows_on(reader, kind, rows)
-}
-
-// The head is row 0, and the rows of its list follow; the object's brace closes it.
-fn object(
-    reader: &mut Reader<'_>,
-    head: Ask,
-    word: &[u8],
-    kind: Kind,
-    rows: &mut Vec<Ask>,
-) -> Result<(), Fault>
-    requires { 1 + size (at reader.old) ≤ vec_capacity rows.old }
-    ensures reads { out (λ _. rows.new.items) result (at reader.new) ≡ object_due head word.now kind (at reader.old) }
-    ensures room { vec_capacity rows.new ≡ vec_capacity rows.old }
-{
-    rows.clear();
-    rows.push_reserved(head);
-    reader.mark(',')?;
-    reader.member(word)?;
-    list(reader, kind, rows)?;
-    reader.mark('}')
-}
-
-// The first object: a model and its rules.
-pub(crate) fn model(reader: &mut Reader<'_>, rows: &mut Vec<Ask>) -> Result<(), Fault>
-    requires { size (at reader.old) ≤ vec_capacity rows.old }
-    ensures reads { out (λ _. rows.new.items) result (at reader.new) ≡ model_due (at reader.old) }
-    ensures room { vec_capacity rows.new ≡ vec_capacity rows.old }
-{
-    let opening = opening(reader)?;
-    object(reader, Ask::Open(opening), b"rules", Kind::Rules, rows)
 }
 
 // The scale, which is the first member of a run.
@@ -167,12 +131,68 @@ fn scale(reader: &mut Reader<'_>) -> Result<u64, Fault>
     field(reader, b"scale")
 }
 
-// A later object: its first member's name says what it is. So far there are runs only.
-pub(crate) fn run(reader: &mut Reader<'_>, rows: &mut Vec<Ask>) -> Result<(), Fault>
-    requires { size (at reader.old) ≤ vec_capacity rows.old }
-    ensures reads { out (λ _. rows.new.items) result (at reader.new) ≡ run_due (at reader.old) }
-    ensures room { vec_capacity rows.new ≡ vec_capacity rows.old }
-{
-    let scale = scale(reader)?;
-    object(reader, Ask::Begin(scale), b"run", Kind::Steps, rows)
+// Each call asks for the room that it needs: no type has it, since it depends on the tokens that the
+// reader still has ahead.
+impl Rows {
+    // One row or more, up to the end of their list. They come after the rows that are held.
+    fn rows_on<R: Row>(&mut self, reader: &mut Reader<'_>) -> Result<(), Fault>
+        requires { vec_len self.old.asks + size (at reader.old) ≤ 65536 }
+        ensures { out (λ _. self.new.asks.items) result (at reader.new) ≡ list_due R.due self.old.asks.items (at reader.old) }
+    {
+        loop {
+            let ask = R::read(reader)?;
+            self.asks.push_reserved(ask);
+            if !reader.comma(']')? {
+                return Ok(());
+            }
+        }
+    }
+
+    // A list of rows, which may be empty.
+    fn list<R: Row>(&mut self, reader: &mut Reader<'_>) -> Result<(), Fault>
+        requires { vec_len self.old.asks + size (at reader.old) ≤ 65536 }
+        ensures { out (λ _. self.new.asks.items) result (at reader.new) ≡ rows_due R.due self.old.asks.items (at reader.old) }
+    {
+        reader.mark('[')?;
+        if reader.passes(']') {
+            return Ok(());
+        }
+        self.rows_on::<R>(reader)
+    }
+
+    // The head is row 0, and the rows of its list follow; the object's brace closes it.
+    fn object<R: Row>(
+        &mut self,
+        reader: &mut Reader<'_>,
+        head: Ask,
+        word: &[u8],
+    ) -> Result<(), Fault>
+        requires { 1 + size (at reader.old) ≤ 65536 }
+        ensures { out (λ _. self.new.asks.items) result (at reader.new) ≡ object_due head word.now R.due (at reader.old) }
+    {
+        self.asks.clear();
+        self.asks.push_reserved(head);
+        reader.mark(',')?;
+        reader.member(word)?;
+        self.list::<R>(reader)?;
+        reader.mark('}')
+    }
+
+    // The first object: a model and its rules.
+    pub(crate) fn model(&mut self, reader: &mut Reader<'_>) -> Result<(), Fault>
+        requires { size (at reader.old) ≤ 65536 }
+        ensures { out (λ _. self.new.asks.items) result (at reader.new) ≡ model_due (at reader.old) }
+    {
+        let opening = opening(reader)?;
+        self.object::<RuleRow>(reader, Ask::Open(opening), b"rules")
+    }
+
+    // A later object: its first member's name says what it is. So far there are runs only.
+    pub(crate) fn run(&mut self, reader: &mut Reader<'_>) -> Result<(), Fault>
+        requires { size (at reader.old) ≤ 65536 }
+        ensures { out (λ _. self.new.asks.items) result (at reader.new) ≡ run_due (at reader.old) }
+    {
+        let scale = scale(reader)?;
+        self.object::<StepRow>(reader, Ask::Begin(scale), b"run")
+    }
 }

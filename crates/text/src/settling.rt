@@ -1,44 +1,17 @@
 // A text is settled: read from its first byte to its last, with an answer noted for each object.
 
-ghost use Rattle.std.specs.Prelude.{◌≡◌, ◌+◌, ◌<◌, ◌≤◌, [], ◌++◌, map, IfOk, vec_len, vec_capacity};
-ghost use Rattle.token.specs.Tokens.{at};
-ghost use Rattle.token.specs.Grammar.{size};
-ghost use Rattle.text.specs.Calls.{shown};
-ghost use Rattle.text.specs.Documents.{ended, document, settled_text};
+ghost use Rattle.std.specs.Prelude.{◌≡◌, ◌≤◌, [], map, IfOk, vec_len};
+ghost use Rattle.fault.specs.Faults.{outcome};
+ghost use Rattle.text.specs.Documents.{ended, settled_text};
 ghost use Rattle.text.specs.Written.{AsWritten};
 
-use crate::asks::Ask;
-use crate::objects::objects;
+use crate::rows::Rows;
 use crate::workspace::Workspace;
 use case::Case;
 use fault::Fault;
 use line::Answer;
 use std::alloc::{AllocError, Global};
-use token::{Reader, admit};
-
-// The longest text that is read has so many bytes, and no more tokens.
-const LONGEST: usize = 65_536;
-
-// All objects, in brackets.
-fn array(
-    reader: &mut Reader<'_>,
-    case: &mut Case,
-    rows: &mut Vec<Ask>,
-    answers: &mut Vec<Answer>,
-) -> Result<(), Fault>
-    requires rows { size (at reader.old) ≤ vec_capacity rows.old }
-    requires answers { vec_len answers.old + size (at reader.old) < vec_capacity answers.old }
-    ensures says { ended result (map shown answers.new.items) ≡ map shown answers.old.items ++ document (at reader.old) }
-    ensures rows { vec_capacity rows.new ≡ vec_capacity rows.old }
-    ensures answers { vec_capacity answers.new ≡ vec_capacity answers.old }
-    ensures fits { vec_len answers.new < vec_capacity answers.new }
-{
-    reader.mark('[')?;
-    if reader.passes(']') {
-        return reader.end();
-    }
-    objects(reader, case, rows, answers)
-}
+use token::{LONGEST, Reader, admit};
 
 impl Workspace {
     // All room is taken here, so settling a text cannot fail for want of memory.
@@ -46,41 +19,41 @@ impl Workspace {
         ensures { IfOk result (λ w. w.answers.items ≡ []) }
     {
         let case = Case::new(heap)?;
-        let rows = Vec::with_capacity(heap, LONGEST)?;
+        // A text has no more tokens than bytes; a row takes one, and so does an answer but for the last.
+        let asks = Vec::with_capacity(heap, LONGEST)?;
         let answers = Vec::with_capacity(heap, LONGEST + 1)?;
         Ok(Workspace {
             case,
-            rows,
+            rows: Rows { asks },
             answers,
         })
     }
 
+    // Reads a text, which is an array of objects, and notes their answers.
     fn read(&mut self, text: &[u8]) -> Result<(), Fault>
         requires none { self.old.answers.items ≡ [] }
         requires zero { vec_len self.old.answers ≡ 0 }
-        ensures says { ended result (map shown self.new.answers.items) ≡ settled_text text.now }
-        ensures fits { vec_len self.new.answers < vec_capacity self.new.answers }
+        ensures says { ended result (map outcome self.new.answers.items) ≡ settled_text text.now }
+        ensures fits { vec_len self.new.answers ≤ 65536 }
     {
         admit(text)?;
         let mut reader = Reader::new(text);
-        array(
-            &mut reader,
-            &mut self.case,
-            &mut self.rows,
-            &mut self.answers,
-        )
+        reader.mark('[')?;
+        if reader.passes(']') {
+            return reader.end();
+        }
+        self.objects(&mut reader)
     }
 
     // Settles a text of any bytes and any length. A document comes to the same, however it is laid
     // out: to what its own calls come to.
     pub fn settle(&mut self, text: &[u8])
-        ensures says { map shown self.new.answers.items ≡ settled_text text.now }
-        ensures laid { AsWritten text.now (map shown self.new.answers.items) }
+        ensures says { map outcome self.new.answers.items ≡ settled_text text.now }
+        ensures laid { AsWritten text.now (map outcome self.new.answers.items) }
     {
         self.answers.clear();
-        match self.read(text) {
-            Ok(()) => {}
-            Err(fault) => self.answers.push_reserved(Answer::Refused(fault)),
+        if let Err(fault) = self.read(text) {
+            self.answers.push_reserved(Err(fault));
         }
     }
 

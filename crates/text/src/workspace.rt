@@ -1,6 +1,6 @@
 ghost use Rattle.std.specs.Prelude.{◌≤◌, vec_capacity};
 
-use crate::asks::Ask;
+use crate::rows::Rows;
 use case::Case;
 use line::Answer;
 
@@ -8,8 +8,7 @@ use line::Answer;
 #[derive(Drop)]
 pub struct Workspace {
     pub(crate) case: Case,
-    pub(crate) rows: Vec<Ask>,
+    pub(crate) rows: Rows,
     pub(crate) answers: Vec<Answer>,
-    ghost rows_room: { 65536 ≤ vec_capacity rows },
-    ghost answers_room: { 65537 ≤ vec_capacity answers },
+    ghost room: { 65537 ≤ vec_capacity answers },
 }

@@ -4,76 +4,61 @@
 // delegates further, and every open delegation has to be signed within a day. Can it come to a
 // payment without the second signature?
 
-use automaton::{Opening, RuleNumbers};
+use automaton::Opening;
 use case::{Case, Standing};
-use fault::Fault;
+use fault::{Fault, Refusal};
 use std::io;
 
-// What each rule of the flow says, by its place.
-const SAYS: [&str; 7] = [
-    "the approver delegates",
-    "the delegate delegates further",
-    "the last delegate signs within a day",
-    "the one above signs within a day",
-    "it is paid within a day of the draft",
-    "a delegation is handed back after more than a day",
-    "it is paid unsigned within a day of the draft",
+// The rules of the flow, by their places: what each says, and its numbers.
+const RULES: [(&str, [u64; 8]); 7] = [
+    ("the approver delegates", [0, 1, 3, 1, 0, 0, 0, 0]),
+    ("the delegate delegates further", [1, 1, 3, 1, 0, 0, 0, 0]),
+    (
+        "the last delegate signs within a day",
+        [1, 2, 4, 1, 0, 0, 1, 0],
+    ),
+    ("the one above signs within a day", [2, 2, 4, 1, 0, 0, 1, 0]),
+    (
+        "it is paid within a day of the draft",
+        [2, 5, 1, 0, 0, 0, 1, 0],
+    ),
+    (
+        "a delegation is handed back after more than a day",
+        [1, 3, 4, 1, 1, 1, 0, 2],
+    ),
+    (
+        "it is paid unsigned within a day of the draft",
+        [3, 4, 1, 0, 0, 0, 1, 0],
+    ),
 ];
 
-const NUMBERS: [[u64; 8]; 7] = [
-    [0, 1, 3, 1, 0, 0, 0, 0],
-    [1, 1, 3, 1, 0, 0, 0, 0],
-    [1, 2, 4, 1, 0, 0, 1, 0],
-    [2, 2, 4, 1, 0, 0, 1, 0],
-    [2, 5, 1, 0, 0, 0, 1, 0],
-    [1, 3, 4, 1, 1, 1, 0, 2],
-    [3, 4, 1, 0, 0, 0, 1, 0],
+// The names of the states.
+const STATES: [&str; 6] = [
+    "drafted",
+    "delegated",
+    "signing",
+    "expired",
+    "paid without the second signature",
+    "paid",
 ];
-
-fn state_name(state: u8) -> &'static str {
-    match state {
-        0 => "drafted",
-        1 => "delegated",
-        2 => "signing",
-        3 => "expired",
-        4 => "paid without the second signature",
-        _ => "paid",
-    }
-}
-
-fn numbers(row: [u64; 8]) -> RuleNumbers {
-    RuleNumbers {
-        from: row[0],
-        to: row[1],
-        kind: row[2],
-        argument: row[3],
-        lower: row[4],
-        lower_flag: row[5],
-        upper: row[6],
-        upper_flag: row[7],
-    }
-}
 
 fn tell_refusal(rt: &HostRuntime, fault: Fault) -> io::Result<()> {
     let n = fault.refusal.number();
-    match n {
-        12 => println!(rt; "  refused by {n}: there is no run"),
-        17 => println!(rt; "  refused by {n}: outside the interval"),
+    match fault.refusal {
+        Refusal::NoRun => println!(rt; "  refused by {n}: there is no run"),
+        Refusal::OutsideInterval => println!(rt; "  refused by {n}: outside the interval"),
         _ => println!(rt; "  refused by {n}"),
     }
 }
 
 fn tell_edit(rt: &HostRuntime, r: Result<(), Fault>) -> io::Result<()> {
-    match r {
-        Ok(()) => Ok(()),
-        Err(fault) => tell_refusal(rt, fault),
-    }
+    r.or_else(|fault| tell_refusal(rt, fault))
 }
 
 fn tell_step(rt: &HostRuntime, r: Result<u8, Fault>) -> io::Result<()> {
     match r {
         Ok(state) => {
-            let name = state_name(state);
+            let name = STATES.get(state as usize).unwrap_or(&"unknown");
             println!(rt; "  now {name}")
         }
         Err(fault) => tell_refusal(rt, fault),
@@ -81,16 +66,16 @@ fn tell_step(rt: &HostRuntime, r: Result<u8, Fault>) -> io::Result<()> {
 }
 
 fn tell_standing(rt: &HostRuntime, case: &Case) -> io::Result<()> {
-    match case.standing() {
-        Standing::Undecided => println!(rt; "The case is undecided."),
-        Standing::Reachable => println!(rt; "The target is reachable."),
-        Standing::Unreachable => println!(rt; "The target is unreachable."),
-    }
+    let says = match case.standing() {
+        Standing::Undecided => "The case is undecided.",
+        Standing::Reachable => "The target is reachable.",
+        Standing::Unreachable => "The target is unreachable.",
+    };
+    println!(rt; "{says}")
 }
 
 fn fire(rt: &HostRuntime, case: &mut Case, place: usize) -> io::Result<()> {
-    if place < 7 {
-        let says = SAYS[place];
+    if let Some((says, _)) = RULES.get(place) {
         println!(rt; "- {says}")?;
     }
     tell_step(rt, case.fire(place as u64, 0))
@@ -113,12 +98,12 @@ fn draw(rt: &HostRuntime, case: &mut Case) -> io::Result<()> {
         clocks: 1,
     };
     tell_edit(rt, case.open(opening))?;
-    for row in NUMBERS {
-        tell_edit(rt, case.add(numbers(row)))?;
+    for (_, row) in RULES {
+        tell_edit(rt, case.add(row.into()))?;
     }
     println!(rt; "Seven rules are drawn; the target is: paid without the second signature.")?;
     println!(rt; "A rule that names a second clock is not taken up:")?;
-    tell_edit(rt, case.add(numbers([0, 0, 1, 1, 0, 0, 1, 0])))?;
+    tell_edit(rt, case.add([0, 0, 1, 1, 0, 0, 1, 0].into()))?;
     tell_standing(rt, case)
 }
 

@@ -1,5 +1,5 @@
 -- The turns of the loop over the rows of a list.
-use Rattle.std.proofs.Common.{◌≡◌, ℕ, zero, suc, ◌<◌, true, false, List, [], ◌∷◌, ◌++◌, refl, ◌∙◌, arith}
+use Rattle.std.proofs.Common.{◌≡◌, ℕ, zero, suc, ◌<◌, true, false, List, [], ◌∷◌, ◌++◌, ◌∙◌, arith}
 use Rattle.fault.specs.declared.Place.{Place}
 use Rattle.fault.specs.declared.Layer.{Layer}
 use Rattle.token.specs.Tokens.{Ahead, Out, gives, denies}
@@ -12,9 +12,6 @@ pub record Going {A : Type 0} (f : Ahead → Out A) (had : List A) (start : Ahea
   pub fuel : ℕ
   pub more : size a < fuel
   pub same : items f fuel got a ≡ list_due f had start
-
-pub begins : {A : Type 0} (f : Ahead → Out A) (had : List A) (a : Ahead) → Going f had a had a
-begins f had a = record { fuel = suc (size a); more = omega arith; same = refl }
 
 module _ {A : Type 0} (f : Ahead → Out A) (falls : Falls f) (had : List A) (start : Ahead) (got : List A) (a : Ahead) where
   no_item : (k : ℕ) → size a < k → (n : ℕ) (l : Layer) (p : Place) (b : Ahead) → denies n l p b ≡ f a → denies n l p b ≡ items f k got a
