@@ -1,6 +1,7 @@
 use Rattle.std.proofs.Common.{◌≡◌, ℕ, zero, suc, ◌+◌, Bool, true, false, ◌||◌, List, [], ◌∷◌, Some, None, Option, sym, refl, ap, ◌∙◌, inl, inr, le_of_suc-le-suc, not-suc-le-zero, add-zero, add_assoc, arith}
 use Rattle.std.proofs.lemmas.Bool.{and_parts, or_cases, or_right}
-use Rattle.abstraction.specs.Lists.{all, any, or_else, first, unless, Sits}
+use Rattle.std.specs.List.{list_all}
+use Rattle.abstraction.specs.Lists.{any, or_else, first, unless, Sits}
 use Rattle.abstraction.specs.Frames.{plus}
 
 pub or_none : {Y : Type 0} (a b : Option Y) → or_else a b ≡ None → (a ≡ None) × (b ≡ None)
@@ -19,7 +20,7 @@ first_none p b [] k x s h = absurd (not-suc-le-zero s.0)
 first_none p b (y ∷ xs) zero x s h = (b, ap (p b) (sym (s.1 y)) ∙ (or_none (p b y) _ h).0)
 first_none p b (y ∷ xs) (suc k) x s h = first_none p (suc b) xs k x (sits_next y x xs k s) (or_none (p b y) _ h).1
 
-pub all_true : {X : Type 0} (p : X → Bool) (xs : List X) (k : ℕ) (x : X) → Sits xs k x → all p xs ≡ true → p x ≡ true
+pub all_true : {X : Type 0} (p : X → Bool) (xs : List X) (k : ℕ) (x : X) → Sits xs k x → list_all p xs ≡ true → p x ≡ true
 all_true p [] k x s h = absurd (not-suc-le-zero s.0)
 all_true p (y ∷ xs) zero x s h = ap p (sym (s.1 y)) ∙ (and_parts (p y) _ h).0
 all_true p (y ∷ xs) (suc k) x s h = all_true p xs k x (sits_next y x xs k s) (and_parts (p y) _ h).1
@@ -30,11 +31,6 @@ any_true p b (y ∷ xs) h = elim (or_cases (p b y) (any p (suc b) xs) h) [
   | inl t ↦ (0, b, y, omega arith, (omega arith, λ d. refl), t)
   | inr t ↦ let r = any_true p (suc b) xs t in (suc r.0, r.1, r.2, omega (arith, r.3), (omega (arith, r.4.0), r.4.1), r.5)
 ]
-
-pub any_from : {X : Type 0} (p : X → Bool) (b : ℕ) (xs : List X) (k : ℕ) (x : X) → Sits xs k x → p x ≡ true → any (λ _ y. p y) b xs ≡ true
-any_from p b [] k x s h = absurd (not-suc-le-zero s.0)
-any_from p b (y ∷ xs) zero x s h = ap (λ v. v || any (λ _ y. p y) (suc b) xs) (ap p (s.1 y) ∙ h)
-any_from p b (y ∷ xs) (suc k) x s h = or_right (p y) _ (any_from p (suc b) xs k x (sits_next y x xs k s) h)
 
 pub plus_zero : (xs : List ℕ) → plus 0 xs ≡ xs
 plus_zero [] = refl

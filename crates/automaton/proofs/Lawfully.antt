@@ -5,7 +5,7 @@ use Rattle.std.proofs.lemmas.List.{get_or_default}
 use Rattle.std.proofs.lemmas.Bool.Decides.{nat_tests}
 use Rattle.std.specs.Option.{option_copied}
 use Rattle.std.specs.Slice.{IsItemAt}
-use Rattle.abstraction.specs.Lists.{all}
+use Rattle.std.specs.List.{list_all}
 use Rattle.abstraction.proofs.Found.{all_true}
 use Rattle.automaton.specs.Lawful.{names, lawful, all_lawful, Clocked, AllClocked}
 use Rattle.automaton.specs.Insert.{bumped, lifted, raised}
@@ -16,11 +16,11 @@ use Rattle.automaton.specs.declared.rule.Action.TheVariants.{Move, Test, Assign,
 
 -- what holds of each element still holds after one less
 
-pub all_removed : {X : Type 0} (p : X → Bool) (xs : List X) (i : ℕ) → all p xs ≡ true → all p (remove xs i) ≡ true
+pub all_removed : {X : Type 0} (p : X → Bool) (xs : List X) (i : ℕ) → list_all p xs ≡ true → list_all p (remove xs i) ≡ true
 all_removed p [] zero h = refl
 all_removed p [] (suc i) h = refl
-all_removed p (x ∷ xs) zero h = (and_parts (p x) (all p xs) h).1
-all_removed p (x ∷ xs) (suc i) h = let q = and_parts (p x) (all p xs) h in and_from (p x) _ q.0 (all_removed p xs i q.1)
+all_removed p (x ∷ xs) zero h = (and_parts (p x) (list_all p xs) h).1
+all_removed p (x ∷ xs) (suc i) h = let q = and_parts (p x) (list_all p xs) h in and_from (p x) _ q.0 (all_removed p xs i q.1)
 
 -- a lawful rule names a clock that is there
 

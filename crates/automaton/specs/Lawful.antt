@@ -1,7 +1,7 @@
 use Rattle.std.specs.Prelude.{◌≡◌, ℕ, ◌<◌, Bool, true, ◌&&◌, List, length, nat_le, nat_lt, slice_index_or}
 use Rattle.fault.specs.Faults.{Outcome}
 use Rattle.fault.specs.Faults.Outcome.{accepted}
-use Rattle.abstraction.specs.Lists.{all}
+use Rattle.std.specs.List.{list_all}
 use Rattle.abstraction.specs.Bounds.{fits}
 use Rattle.automaton.specs.Rules.{written}
 use Rattle.automaton.specs.declared.rule.Rule.{Rule}
@@ -23,7 +23,7 @@ abbrev pub lawful : Sizes → Rule → Bool
 lawful z r = (nat_lt r.from z.states && nat_lt r.to z.states) && (names z r.action && fits 15 r.interval)
 
 abbrev pub all_lawful : Sizes → List Rule → Bool
-all_lawful z rs = all (lawful z) rs
+all_lawful z rs = list_all (lawful z) rs
 
 -- what a read rule is: eight numbers are accepted exactly when they write a lawful rule, and as that
 pub record Reads (z : Sizes) (n : RuleNumbers) (o : Outcome Rule) : Type 0 where

@@ -1,6 +1,7 @@
 use Rattle.std.proofs.Common.{◌≡◌, ℕ, zero, suc, ◌+◌, ◌<◌, ◌≤◌, Bool, true, false, cond, eqb, leb, ◌⊎◌, List, [], ◌∷◌, Some, None, Decides, Option, sym, refl, ap, ◌∙◌, inl, inr, not-suc-le-zero, add-zero, arith}
 use Rattle.std.proofs.lemmas.Bool.{and_from, or_left, or_right, cases_Bool, cond-true, cond-false, eqb-true, eq-eqb, leb-true, le-leb}
-use Rattle.abstraction.specs.Lists.{all, any, or_else, first, unless, Sits, In}
+use Rattle.std.specs.List.{list_all}
+use Rattle.abstraction.specs.Lists.{any, or_else, first, unless, Sits, In}
 use Rattle.abstraction.proofs.Found.{all_true, sits_next}
 
 -- tests that decide statements
@@ -21,12 +22,12 @@ where_same a b c d = (
 in_next : {X : Type 0} (y x : X) (xs : List X) → In xs x → In (y ∷ xs) x
 in_next y x xs (k, s) = (suc k, (omega (arith, s.0), s.1))
 
-all_from : {X : Type 0} (p : X → Bool) (xs : List X) → ((x : X) → In xs x → p x ≡ true) → all p xs ≡ true
+all_from : {X : Type 0} (p : X → Bool) (xs : List X) → ((x : X) → In xs x → p x ≡ true) → list_all p xs ≡ true
 all_from p [] h = refl
 all_from p (x ∷ xs) h =
     and_from (p x) _ (h x (0, (omega arith, λ d. refl))) (all_from p xs (λ y i. h y (in_next x y xs i)))
 
-pub each : {X : Type 0} (p : X → Bool) (P : X → Type 0) (xs : List X) → ((x : X) → Decides (p x) (P x)) → Decides (all p xs) ((x : X) → In xs x → P x)
+pub each : {X : Type 0} (p : X → Bool) (P : X → Type 0) (xs : List X) → ((x : X) → Decides (p x) (P x)) → Decides (list_all p xs) ((x : X) → In xs x → P x)
 each p P xs d = (λ h x i. (d x).0 (all_true p xs i.0 x i.1 h), λ f. all_from p xs (λ x i. (d x).1 (f x i)))
 
 pub any_at : {X : Type 0} (p : ℕ → X → Bool) (b : ℕ) (xs : List X) (k : ℕ) (x : X) → Sits xs k x → p (b + k) x ≡ true → any p b xs ≡ true

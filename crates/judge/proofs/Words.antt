@@ -1,6 +1,6 @@
 use Rattle.std.proofs.Common.{◌≡◌, ℕ, suc, Bool, true, eqb, ◌&&◌, ◌||◌, List, [], ◌∷◌, refl, ap, ◌∙◌, add-one}
 use Rattle.std.specs.List.{list_all, list_any, enumerate_from}
-use Rattle.abstraction.specs.Lists.{all, any}
+use Rattle.abstraction.specs.Lists.{any}
 use Rattle.automaton.specs.declared.rule.Rule.{Rule}
 use Rattle.automaton.specs.declared.rule.Action.TheVariants.{Push}
 use Rattle.judge.specs.Claims.{Claim, scope}
@@ -10,7 +10,7 @@ use Rattle.judge.specs.declared.entry.Entry.{Entry}
 -- the words of the specs are those that std's searches answer by
 
 module _ {X : Type 0} where
-  all_list : (p : X → Bool) (xs : List X) → list_all p xs ≡ all p xs
+  all_list : (p : X → Bool) (xs : List X) → list_all p xs ≡ list_all p xs
   all_list p [] = refl
   all_list p (x ∷ xs) = ap (λ b. p x && b) (all_list p xs)
 
@@ -23,7 +23,7 @@ module _ {X : Type 0} where
   any_counted p k (x ∷ xs) =
       ap (λ b. p k x || b) (ap (λ n. list_any (λ i. p i.0 i.1) (enumerate_from n xs)) (add-one k) ∙ any_counted p (suc k) xs)
 
-  pub all_from_list : (p : X → Bool) (xs : List X) (r : Bool) → r ≡ list_all p xs → r ≡ all p xs
+  pub all_from_list : (p : X → Bool) (xs : List X) (r : Bool) → r ≡ list_all p xs → r ≡ list_all p xs
   all_from_list p xs r h = h ∙ all_list p xs
 
   pub any_from_list : (p : X → Bool) (k : ℕ) (xs : List X) (r : Bool) → r ≡ list_any p xs → r ≡ any (λ _ x. p x) k xs

@@ -5,7 +5,8 @@ use Rattle.fault.specs.Faults.Outcome.{accepted, refused}
 use Rattle.fault.specs.declared.Layer.TheVariants.{Evidence}
 use Rattle.fault.specs.declared.Place.{Place}
 use Rattle.fault.specs.declared.Place.TheVariants.{Table}
-use Rattle.abstraction.specs.Lists.{all, any, or_else, first, unless, fault}
+use Rattle.std.specs.List.{list_all}
+use Rattle.abstraction.specs.Lists.{any, or_else, first, unless, fault}
 use Rattle.abstraction.specs.Bounds.{fits}
 use Rattle.abstraction.specs.declared.interval.Interval.{Interval}
 use Rattle.automaton.specs.declared.rule.Rule.{Rule}
@@ -53,7 +54,7 @@ module _ {S : Type 0} (z : Claim S) where
   taken w s = any (takes w s) 0 z.table
 
   abbrev pub all_taken : Want → List S → Bool
-  all_taken w ss = all (taken w) ss
+  all_taken w ss = list_all (taken w) ss
 
   abbrev pub time_closed : Entry S → Bool
   time_closed e = all_taken (beside e e.state) (z.answers.time (scope z) e.shape)
@@ -127,7 +128,7 @@ module _ {S : Type 0} (z : Claim S) where
   action_fits i (Pop l) = fits z.top i
 
   abbrev pub rules_fit : Bool
-  rules_fit = all (λ r. action_fits r.interval r.action) z.automaton.rules
+  rules_fit = list_all (λ r. action_fits r.interval r.action) z.automaton.rules
 
   -- the lengths of the table and of the scratch, and the top
   abbrev pub sizes_fit : ℕ → Bool
