@@ -18,7 +18,8 @@ pub(crate) const MOST_ENTRIES: usize = 2048;
 
 const MOST_RULES: usize = 64;
 
-// The place of an entry, of a rule at it, and of an entry above it, each as far as there is one.
+// The place of an entry, of a rule at it, and of an entry above it. Where there is none, its limit
+// stands, as users are told it.
 pub(crate) fn at(entry: Option<usize>, rule: Option<usize>, above: Option<usize>) -> Place
     ensures { result ≡ place entry rule above }
 {
@@ -29,7 +30,7 @@ pub(crate) fn at(entry: Option<usize>, rule: Option<usize>, above: Option<usize>
     }
 }
 
-impl<'m, 'a, 't, A: Abstraction> Judging<'m, 'a, 't, A> {
+impl<'j, A: Abstraction> Judging<'j, A> {
     fn time_closed(&self, e: Entry<A::Shape>, listing: &mut Listing<A::Shape>) -> bool
         ensures { result ≡ time_closed (claim_of A.Abstraction.answers self.now) e }
     {
@@ -91,8 +92,8 @@ impl<'m, 'a, 't, A: Abstraction> Judging<'m, 'a, 't, A> {
                 {
                     self.abstraction
                         .push(self.scope(), r.interval, e.shape, listing);
-                    let shapes = listing.shapes();
-                    shapes
+                    listing
+                        .shapes()
                         .iter()
                         .any(|s| self.abstraction.within(self.scope(), *s, o.shape))
                 }
@@ -164,6 +165,7 @@ impl<'m, 'a, 't, A: Abstraction> Judging<'m, 'a, 't, A> {
         if let Some(n) = self.open_rule(e, listing) {
             return Err(at(Some(k), Some(n), None));
         }
+        // (c) By index: of marks that a zip lends by iter_mut, no element is known afterwards.
         for (i, o) in self.table.iter().enumerate() {
             marks[i] = self.opens(e, *o, listing) as u8;
         }

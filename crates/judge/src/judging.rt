@@ -13,14 +13,14 @@ use automaton::Model;
 // A model, an abstraction with the bound up to which it is asked, and a table.
 // (c) No Model has the claim as its view: a claim holds functions, and no code tells those apart.
 #[derive(Drop)]
-pub(crate) struct Judging<'m, 'a, 't, A: Abstraction> {
-    pub(crate) model: &'m Model,
-    pub(crate) abstraction: &'a A,
+pub(crate) struct Judging<'j, A: Abstraction> {
+    pub(crate) model: &'j Model,
+    pub(crate) abstraction: &'j A,
     pub(crate) top: u64,
-    pub(crate) table: &'t [Entry<A::Shape>],
+    pub(crate) table: &'j [Entry<A::Shape>],
 }
 
-impl<'m, 'a, 't, A: Abstraction> Judging<'m, 'a, 't, A> {
+impl<'j, A: Abstraction> Judging<'j, A> {
     // What the abstraction is asked for.
     pub(crate) fn scope(&self) -> Scope
         ensures { result ≡ scope_of (claim_of A.Abstraction.answers self.now) }

@@ -15,7 +15,7 @@ use fault::{Fault, Refusal};
 
 const GREATEST_TOP: u64 = 15;
 
-impl<'m, 'a, 't, A: Abstraction> Judging<'m, 'a, 't, A> {
+impl<'j, A: Abstraction> Judging<'j, A> {
     // Whether top is not below a finite bound of the rule; a move has none.
     fn rule_fits(&self, r: Rule) -> bool
         ensures { result ≡ action_fits (claim_of A.Abstraction.answers self.now) r.interval r.action }
