@@ -1,11 +1,10 @@
 -- The value of a number token is the number that it writes.
-use Rattle.std.proofs.Common.{◌≡◌, ℕ, ◌+◌, ◌-◌, ◌*◌, ◌/◌, ◌%◌, ◌^◌, ◌<◌, ◌≤◌, Bool, true, false, cond, ◌&&◌, leb, ◌⊎◌, List, [], ◌∷◌, ◌++◌, length, Some, None, Ok, Err, decimal, Option, Result, sym, refl, ap, ◌∙◌, subst, inl, inr, append_assoc, arith, rules}
+use Rattle.std.proofs.Common.{◌≡◌, ℕ, ◌+◌, ◌-◌, ◌*◌, ◌/◌, ◌%◌, ◌^◌, ◌<◌, ◌≤◌, true, List, [], ◌∷◌, ◌++◌, length, Some, None, Ok, decimal, Option, Result, sym, refl, ap, ◌∙◌, subst, inl, inr, append_assoc, arith, rules}
 use Rattle.std.specs.List.{AllByRecursion}
 use Rattle.std.specs.Str.{all_ascii_digits}
 use Rattle.std.proofs.lemmas.List.{append-nil, get_or_append_left}
 use Rattle.std.proofs.lemmas.Fmt.{decimal_by_steps, decimal-digits_value}
 use Rattle.std.proofs.lemmas.Str.Parse.{IsNumeralModel, numerals_by_fold}
-use Rattle.std.proofs.lemmas.Bool.{and_parts, leb-true, true≢false}
 use Rattle.std.proofs.lemmas.Bool.Decides.{nat_tests}
 use Rattle.fault.specs.declared.Fault.{Fault}
 use Rattle.token.specs.Bytes.{digit}
@@ -47,36 +46,26 @@ record Valued (m : ℕ) (ds : List ℕ) (n : ℕ) : Type 0 where
   pub same : reading m ds ≡ n
   pub small : n ≤ LIMIT
 
-valued_step : (m b : ℕ) (ds : List ℕ) (n : ℕ) (t : Bool) → (digit b && leb (m * 10 + (b - 48)) LIMIT) ≡ t → (m * 10 + (b - 48) ≤ LIMIT → numeral (m * 10 + (b - 48)) ds ≡ Some n → Valued (m * 10 + (b - 48)) ds n) → cond t (numeral (m * 10 + (b - 48)) ds) None ≡ Some n → Valued m (b ∷ ds) n
-valued_step m b ds n true h next e =
-    let both = and_parts (digit b) _ h in
-    let v = next (leb-true _ _ both.1) e in
-    record { all = (both.0, v.all); digits = rw v.digits (let z = both.0 in grind (arith, nat_tests)); same = v.same; small = v.small }
-valued_step m b ds n false h next e = absurd (cc)
+valued_step : (m b : ℕ) (ds : List ℕ) (n : ℕ) → numeral m (b ∷ ds) ≡ Some n → (digit b ≡ true) × (m * 10 + (b - 48) ≤ LIMIT) × (numeral (m * 10 + (b - 48)) ds ≡ Some n)
+valued_step m b ds n e = grind (arith, nat_tests)
 
 valued : (m : ℕ) (ds : List ℕ) (n : ℕ) → m ≤ LIMIT → numeral m ds ≡ Some n → Valued m ds n
 valued m [] n low e = let same : m ≡ n = cc in record { all = tt; digits = refl; same = same; small = omega arith }
-valued m (b ∷ ds) n low e = valued_step m b ds n _ refl (valued (m * 10 + (b - 48)) ds n) e
+valued m (b ∷ ds) n low e =
+    let s = valued_step m b ds n e in
+    let v = valued (m * 10 + (b - 48)) ds n s.1 s.2 in
+    record { all = (s.0, v.all); digits = rw v.digits (let z = s.0 in grind (arith, nat_tests)); same = v.same; small = v.small }
 
 -- a number of digits alone that begins with 0 is 0
-power_digit : (e : ℕ) → ((e ≡ 101) ⊎ (e ≡ 69)) → digit e ≡ true → ⊥
-power_digit e h d = grind (arith, nat_tests)
-
 tail_nil : (f x : List ℕ) → Fraction f → Exponent x → AllByRecursion (λ b. digit b ≡ true) (f ++ x) → length (f ++ x) ≡ 0
-tail_nil f x (inr h) k all = absurd (true≢false (sym (subst (λ l. AllByRecursion (λ b. digit b ≡ true) (l ++ x)) h.2 all).0))
+tail_nil f x (inr h) k all = let z = (rw h.2 at all).0 in absurd (cc)
 tail_nil f x (inl e) (inl z) all = rw (e, z)
-tail_nil f x (inl e) (inr (q, ds, p, d, z)) all =
-    let here : x ≡ p.0 ∷ (p.1 ++ ds) = z ∙ ap (λ l. l ++ ds) p.4 in
-    let there : AllByRecursion (λ b. digit b ≡ true) (p.0 ∷ (p.1 ++ ds)) = subst (λ l. AllByRecursion (λ b. digit b ≡ true) l) (ap (λ l. l ++ x) e ∙ here) all in
-    absurd (power_digit p.0 p.2 there.0)
+tail_nil f x (inl e) (inr (q, ds, p, d, z)) all = let y = (rw (e, z, p.4) at all).0 in absurd (grind (arith, nat_tests))
 
 alone : (s w t : List ℕ) → Minus s → Whole w → (AllByRecursion (λ b. digit b ≡ true) t → length t ≡ 0) → AllByRecursion (λ b. digit b ≡ true) ((s ++ w) ++ t) → front ((s ++ w) ++ t) ≡ 48 → length ((s ++ w) ++ t) ≡ 1
-alone s w t (inr e) j none_left all zero-first = absurd (true≢false (sym (subst (λ l. AllByRecursion (λ b. digit b ≡ true) ((l ++ w) ++ t)) e all).0))
-alone s w t (inl e) (inl z) none_left all zero-first =
-    let here : (s ++ w) ++ t ≡ 48 ∷ t = (λ i. (e i ++ z i) ++ t) in
-    let short = none_left (subst (λ l. AllByRecursion (λ b. digit b ≡ true) l) here all).1 in
-    omega (arith, ap length here)
-alone s w t (inl e) (inr h) none_left all zero-first = absurd (h.1 (sym (get_or_append_left w t 0 0 h.0.0) ∙ sym (ap (λ l. front ((l ++ w) ++ t)) e) ∙ zero-first))
+alone s w t (inr e) j none_left all zero-first = let z = (rw e at all).0 in absurd (cc)
+alone s w t (inl e) (inl z) none_left all zero-first = let y = rw (e, z) at all in rw (e, z) (omega (arith, none_left y.1))
+alone s w t (inl e) (inr h) none_left all zero-first = absurd (h.1 (sym (get_or_append_left w t 0 0 h.0.0) ∙ (rw e at zero-first)))
 
 no_leading_zero : (ds : List ℕ) → Number ds → AllByRecursion (λ b. digit b ≡ true) ds → front ds ≡ 48 → length ds ≡ 1
 no_leading_zero ds n all zero-first =
@@ -90,8 +79,7 @@ written_so ds n is some e =
 
 -- what a call for a number answers
 out_gives : (r : Result ℕ Fault) (b c : Ahead) (n : ℕ) → out (λ v. v) r b ≡ gives n c → r ≡ Ok n
-out_gives (Ok v) b c n e = let same : v ≡ n = cc in ap Ok same
-out_gives (Err f) b c n e = absurd (cc)
+out_gives r b c n e = grind arith
 
 fit_plain : (ds : List ℕ) (q n : ℕ) (b c : Ahead) (o : Option ℕ) → Number ds → numeral 0 ds ≡ o → gives n b ≡ fit o q c → Plain (token (number ds q) c) n
 fit_plain ds q n b c (Some v) is e h =

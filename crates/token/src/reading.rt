@@ -1,4 +1,5 @@
-// The calls of a reader. Each passes the token that it judges, also when it refuses it.
+// The calls of a reader. Each passes the token that it judges, also when it refuses it. Each says
+// `same` of its own: it ties two states, which no invariant of the type does.
 
 ghost use Rattle.std.specs.Prelude.{◌≡◌, ◌+◌, ◌≤◌, length, drop, IfOk};
 ghost use Rattle.std.specs.List.{prefix_len};
