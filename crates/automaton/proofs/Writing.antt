@@ -16,7 +16,7 @@ use Rattle.automaton.specs.declared.rule.Action.TheVariants.{Move, Test, Assign,
 -- a chain of tests that ends in acceptance has passed them all
 pub passed : {X : Type 0} (b : Bool) (n : ℕ) (o : Outcome X) (x : X) → unless b n o ≡ accepted x → (b ≡ true) × (o ≡ accepted x)
 passed true n o x h = (refl, h)
-passed false n o x h = absurd (let z : ◌≡◌ {A = ℕ} 0 1 = cc in omega arith)
+passed false n o x h = absurd (cc)
 
 pub same_accepted : {X : Type 0} (x y : X) → accepted x ≡ accepted y → x ≡ y
 same_accepted x y h = cc

@@ -1,4 +1,4 @@
-use Rattle.std.proofs.Common.{◌≡◌, ℕ, zero, suc, ◌+◌, ◌<◌, ◌≤◌, Bool, true, false, cond, ◌&&◌, eqb, leb, List, [], ◌∷◌, ◌++◌, map, length, get_or, take, set, Some, None, Option, sym, refl, ap, ◌∙◌, subst, le_of_suc-le-suc, not-suc-le-zero, add-one, arith, Bor}
+use Rattle.std.proofs.Common.{◌≡◌, ℕ, ◌+◌, ◌<◌, ◌≤◌, Bool, true, false, cond, ◌&&◌, eqb, leb, List, [], ◌∷◌, ◌++◌, map, length, get_or, take, set, Some, None, Option, sym, refl, ap, ◌∙◌, subst, add-one}
 use Rattle.std.specs.List.{slice_get}
 use Rattle.std.proofs.lemmas.Bool.{and_parts, eqb-true, leb-true}
 use Rattle.fault.specs.Faults.{Outcome}
@@ -14,23 +14,16 @@ use Rattle.case.specs.Views.{View, Running, arrived}
 use Rattle.case.specs.Views.Running.{idle, at}
 use Rattle.case.specs.Steps.{delay_check, waited, fire_check, fired}
 use Rattle.case.specs.Calls.{new_case, judge_view, edited, moved, void, answered, begin_check, start_of, begin_after, delay_run, delayed, fire_run, fired_run, fire_rule, fired_rule}
-use Rattle.case.specs.History.{heard, finish, state, Event, event, Noted, noted, notes_of, calls, events, Carries, AllCarry, answer, after, edit, present_from, answers_from, finishes, settles, settled_from, Promised, Makes, Played, OverCalls}
-use Rattle.case.specs.History.Answer.{finished}
+use Rattle.case.specs.History.{heard, finish, state, Event, event, Told, Noted, noted, notes_of, calls, events, Carries, AllCarry, answer, after, edit, present_from, answers_from, finishes, settles, settled_from, Promised, Makes, Played, OverCalls}
 use Rattle.case.specs.History.Event.{opens, adds, removes, retargets, inserts, begins, delays, fires as fires', judges, asks}
 use Rattle.case.specs.declared.case.Standing.{Standing}
 use Rattle.case.specs.declared.case.Standing.TheVariants.{Undecided, Reachable, Unreachable}
-use Rattle.case.specs.declared.history.Reply.{Reply}
-use Rattle.case.specs.declared.history.Call.{Call}
-use Rattle.case.specs.declared.history.Call.TheVariants.{Judge}
 use Rattle.case.specs.declared.history.Turn.{Turn}
-use Rattle.judge.specs.Claims.{claim}
-use Rattle.judge.specs.Judged.{judged}
-use Rattle.judge.specs.Law.{Sound}
-use Rattle.judge.specs.declared.entry.Entry.{Entry}
 use Rattle.abstraction.specs.Lists.{Sits}
 use Rattle.abstraction.specs.Owes.{Answers, Meaning}
 use Rattle.automaton.proofs.Simulate.{in_map}
-use Rattle.std.proofs.lemmas.List.{get_or_default}
+use lib.Seq.{take-suc-set}
+use Rattle.std.proofs.lemmas.List.{get_or_default, map-append}
 use Rattle.case.proofs.Transitions.{checked, nth_sits, fired_state}
 
 -- lists of turns
@@ -44,7 +37,7 @@ played_join C w u v [] us p q = subst (λ (x : View). Played C x us v) p q
 played_join C w u v (t ∷ ts) us (x, m, p) q = (x, m, played_join C x u v ts us p q)
 
 -- under a stronger premise the promises stand
-promised_under : (C E : Type 0) → (E → C) → (c : Event) (r : Reply) (m n : Automaton) → Promised C c r m n → Promised E c r m n
+promised_under : (C E : Type 0) → (E → C) → (c : Event) (r : Told) (m n : Automaton) → Promised C c r m n → Promised E c r m n
 promised_under C E f (opens o) r m n h = tt
 promised_under C E f (adds x) r m n h = tt
 promised_under C E f (removes k) r m n h = tt
@@ -63,36 +56,13 @@ pub played_under : (C E : Type 0) → (E → C) → (w : View) (ts : List Noted)
 played_under C E f w [] v p = p
 played_under C E f w (t ∷ ts) v (u, m, p) = (u, makes_under C E f t w u m, played_under C E f u ts v p)
 
-take_set_suc : {X : Type 0} (xs : List X) (i : ℕ) (x : X) → i < length xs → take (suc i) (set xs i x) ≡ take i xs ++ x ∷ []
-take_set_suc [] i x h = absurd (not-suc-le-zero h)
-take_set_suc (y ∷ ys) zero x h = refl
-take_set_suc (y ∷ ys) (suc i) x h = ap (λ t. y ∷ t) (take_set_suc ys i x (le_of_suc-le-suc h))
-
-map_snoc : {X Y : Type 0} (f : X → Y) (xs : List X) (x : X) → map f (xs ++ x ∷ []) ≡ map f xs ++ f x ∷ []
-map_snoc f [] x = refl
-map_snoc f (y ∷ ys) x = ap (λ t. f y ∷ t) (map_snoc f ys x)
-
 -- one more call is made and noted
 pub notes_more : {X : Type 0} (C : Type 0) (f : X → Noted) (w u v : View) (xs : List X) (i : ℕ) (x : X) → i < length xs → Played C w (map f (take i xs)) u → Makes C (f x) u v → Played C w (map f (take (i + 1) (set xs i x))) v
 notes_more C f w u v xs i x h p m =
-    subst (λ ys. Played C w ys v) (sym (ap (map f) (ap (λ k. take k (set xs i x)) (add-one i) ∙ take_set_suc xs i x h) ∙ map_snoc f (take i xs) x)) (played_more C w u v (map f (take i xs)) (f x) p m)
-
--- a judgment is made as its contract says
-finish_finished : (o : Outcome (Unit {0})) → finish o ≡ finished → o ≡ done
-finish_finished (accepted u) h = refl
-finish_finished (refused n l p) h = absurd (let z : ◌≡◌ {A = ℕ} 0 1 = cc in omega arith)
-
-pub judge_makes : {A S : Type 0} (ans : A → Answers S) (mean : A → Meaning S) (call : Call A S) (n : ℕ) (a : Bor A) (t : Bor (List (Entry S))) (top : ℕ) → call ≡ Judge a t top → (w v : View) (o : Outcome (Unit {0})) (r : Reply) → heard r ≡ finish o → o ≡ judged (claim (ans a.now) w.model top t.now) n → v ≡ judge_view o w → Sound (claim (ans a.now) w.model top t.now) (mean a.now) o → Makes (Carries ans mean call) (record { event = event ans n call; reply = r }) w v
-judge_makes {A} {S} ans mean call n a t top e w v o r h j k s =
-    subst (λ (x : Call A S). Makes (Carries ans mean x) (record { event = event ans n x; reply = r }) w v) (sym e)
-    (record {
-      says = h ∙ ap finish j;
-      holds = k ∙ ap (λ x. judge_view x w) j;
-      promise = λ c f. s (finish_finished o (sym h ∙ f)) c;
-    })
+    subst (λ ys. Played C w ys v) (sym (ap (map f) (ap (λ k. take k (set xs i x)) (add-one i) ∙ take-suc-set xs i x h) ∙ map-append f (take i xs) (x ∷ []))) (played_more C w u v (map f (take i xs)) (f x) p m)
 
 -- one more turn of a segment
-pub plays_more : {A S : Type 0} (ans : A → Answers S) (mean : A → Meaning S) (es ts : List (Turn A S)) (w u v : View) (i n k : ℕ) (d : Turn A S) (r : Reply) → i < length ts → calls ts ≡ calls es → k ≡ n → Played (AllCarry ans mean (calls es)) w (map (noted ans n) (take i ts)) u → Makes (Carries ans mean (get_or ts i d).call) (record { event = event ans k (get_or ts i d).call; reply = r }) u v → Played (AllCarry ans mean (calls es)) w (map (noted ans n) (take (i + 1) (set ts i (record { call = (get_or ts i d).call; reply = r })))) v
+pub plays_more : {A S : Type 0} (ans : A → Answers S) (mean : A → Meaning S) (es ts : List (Turn A S)) (w u v : View) (i n k : ℕ) (d : Turn A S) (r : Told) → i < length ts → calls ts ≡ calls es → k ≡ n → Played (AllCarry ans mean (calls es)) w (map (noted ans n) (take i ts)) u → Makes (Carries ans mean (get_or ts i d).call) (record { event = event ans k (get_or ts i d).call; reply = r }) u v → Played (AllCarry ans mean (calls es)) w (map (noted ans n) (take (i + 1) (set ts i (record { call = (get_or ts i d).call; reply = r })))) v
 plays_more {A} {S} ans mean es ts w u v i n k d r h same e p m =
     let c = (get_or ts i d).call in
     let x : Turn A S = record { call = c; reply = r } in
@@ -133,9 +103,9 @@ pub record Good (C : Type 0) (w : View) : Type 0 where
 good_edited : (C : Type 0) (m : Automaton) → Good C (edited m)
 good_edited C m =
     record {
-      unreachable = λ _ h. absurd (let z : ◌≡◌ {A = ℕ} 0 1 = cc in omega arith);
-      reachable = λ h. absurd (let z : ◌≡◌ {A = ℕ} 0 1 = cc in omega arith);
-      runs = λ D c h. absurd (let z : ◌≡◌ {A = ℕ} 0 1 = cc in omega arith);
+      unreachable = λ _ h. absurd (cc);
+      reachable = λ h. absurd (cc);
+      runs = λ D c h. absurd (cc);
     }
 
 good_edit : (C : Type 0) {X : Type 0} (o : Outcome X) (m : Automaton) (w : View) → Good C w → Good C (settle o (edited m) w)
@@ -144,7 +114,7 @@ good_edit C (refused n l p) m w g = g
 
 -- a run that came to the target makes the standing true
 arrived_unreachable : (m : Automaton) (q : ℕ) (s : Standing) (b : Bool) → cond b Reachable s ≡ Unreachable → s ≡ Unreachable
-arrived_unreachable m q s true h = absurd (let z : ◌≡◌ {A = ℕ} 0 1 = cc in omega arith)
+arrived_unreachable m q s true h = absurd (cc)
 arrived_unreachable m q s false h = h
 
 arrived_reachable : (P : Type 0) (s : Standing) (b : Bool) → (b ≡ true → P) → (s ≡ Reachable → P) → cond b Reachable s ≡ Reachable → P
@@ -188,12 +158,12 @@ good_judged : (C : Type 0) (o : Outcome (Unit {0})) (w : View) → Good C w → 
 good_judged C (accepted u) w g k =
     record {
       unreachable = λ c h. k refl c;
-      reachable = λ h. absurd (let z : ◌≡◌ {A = ℕ} 0 1 = cc in omega arith);
+      reachable = λ h. absurd (cc);
       runs = g.runs;
     }
 good_judged C (refused n l p) w g k = g
 
-good_after : (C : Type 0) (c : Event) (r : Reply) (w : View) (n : Automaton) → heard r ≡ answer c w → Promised C c r w.model n → Good C w → Good C (after c w)
+good_after : (C : Type 0) (c : Event) (r : Told) (w : View) (n : Automaton) → heard r ≡ answer c w → Promised C c r w.model n → Good C w → Good C (after c w)
 good_after C (opens o) r w n s p g = good_edit C (open_outcome o) (open_after o w.model) w g
 good_after C (adds x) r w n s p g = good_edit C (add_outcome x w.model) (add_after x w.model) w g
 good_after C (removes k) r w n s p g = good_edit C (remove_outcome k w.model) (remove_after k w.model) w g

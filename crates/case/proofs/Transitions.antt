@@ -1,13 +1,16 @@
 use Rattle.std.proofs.Common.{◌≡◌, ℕ, zero, suc, ◌+◌, ◌≤◌, Bool, true, ◌&&◌, eqb, leb, List, [], ◌∷◌, map, Some, None, Option, sym, refl, ap, ◌∙◌, subst, arith}
 use Rattle.std.specs.List.{slice_get}
 use Rattle.std.proofs.lemmas.Bool.{and_parts, and_from, eqb-true, eq-eqb, leb-true, ltb-true, le-leb, lt-ltb}
+use Rattle.std.proofs.lemmas.List.Elements.{All-get_or}
+use Rattle.std.proofs.lemmas.List.Sums.{AllPass-from_list_all}
 use Rattle.fault.specs.Faults.{Outcome}
 use Rattle.fault.specs.Faults.Outcome.{accepted, refused}
-use Rattle.abstraction.specs.Lists.{all, Sits, In}
+use Rattle.std.specs.List.{list_all}
+use Rattle.abstraction.specs.Lists.{Sits, In}
 use Rattle.abstraction.specs.Frames.{plus}
 use Rattle.abstraction.specs.Bounds.{inside}
 use Rattle.abstraction.specs.declared.interval.Interval.{Interval}
-use Rattle.abstraction.proofs.Found.{all_true, sits_next}
+use Rattle.abstraction.proofs.Found.{sits_next}
 use Rattle.abstraction.proofs.Tests.{inside_true, inside_from}
 use Rattle.automaton.specs.Runs.{Configuration, older, Does, Waits, Fires}
 use Rattle.automaton.specs.Rules.{no}
@@ -29,13 +32,13 @@ use Rattle.case.specs.Laws.{Begins, Limited, Delays, Allows, FiresSo}
 
 pub answered_accepted : (o : Outcome (Unit {0})) (s q : ℕ) → answered o s ≡ accepted q → (o ≡ done) × (s ≡ q)
 answered_accepted (accepted u) s q h = (refl, same_accepted s q h)
-answered_accepted (refused n l p) s q h = absurd (let z : ◌≡◌ {A = ℕ} 0 1 = cc in omega arith)
+answered_accepted (refused n l p) s q h = absurd (cc)
 
 never_accepted : (n q : ℕ) → no n ≡ accepted q → ⊥
-never_accepted n q h = let z : ◌≡◌ {A = ℕ} 0 1 = cc in omega arith
+never_accepted n q h = cc
 
 idle_at : (D : ℕ) (c : Configuration) → idle ≡ at D c → ⊥
-idle_at D c h = let z : ◌≡◌ {A = ℕ} 0 1 = cc in omega arith
+idle_at D c h = cc
 
 same_scale : (D E : ℕ) (b c : Configuration) → at D b ≡ at E c → D ≡ E
 same_scale D E b c h = cc
@@ -67,16 +70,19 @@ begins D w o after ho ha =
 
 -- delaying
 
-all_from : {X : Type 0} (p : X → Bool) (xs : List X) → ((k : ℕ) (x : X) → Sits xs k x → p x ≡ true) → all p xs ≡ true
+all_true : {X : Type 0} (p : X → Bool) (xs : List X) (k : ℕ) (x : X) → Sits xs k x → list_all p xs ≡ true → p x ≡ true
+all_true p xs k x (l, e) h = subst (λ y. p y ≡ true) (e x) (All-get_or (λ y. p y ≡ true) xs k x l (AllPass-from_list_all p xs h))
+
+all_from : {X : Type 0} (p : X → Bool) (xs : List X) → ((k : ℕ) (x : X) → Sits xs k x → p x ≡ true) → list_all p xs ≡ true
 all_from p [] h = refl
 all_from p (x ∷ xs) h = and_from (p x) _ (h 0 x (omega arith, λ d. refl)) (all_from p xs (λ k y s. h (suc k) y (omega (arith, s.0), s.1)))
 
-clocks_limited : (d : ℕ) (xs : List ℕ) → all (clock_fits d) xs ≡ true → (y : ℕ) → In (plus d xs) y → y ≤ limit
+clocks_limited : (d : ℕ) (xs : List ℕ) → list_all (clock_fits d) xs ≡ true → (y : ℕ) → In (plus d xs) y → y ≤ limit
 clocks_limited d xs h y (k, s) =
     let (x, i, e) = in_map_back (λ x. x + d) xs k y s in
     omega (arith, e, leb-true (x + d) limit (all_true (clock_fits d) xs k x i h))
 
-ages_limited : (d : ℕ) (ss : List Symbol) → all (age_fits d) ss ≡ true → (y : Symbol) → In (map (older d) ss) y → y.age ≤ limit
+ages_limited : (d : ℕ) (ss : List Symbol) → list_all (age_fits d) ss ≡ true → (y : Symbol) → In (map (older d) ss) y → y.age ≤ limit
 ages_limited d ss h y (k, s) =
     let (x, i, e) = in_map_back (older d) ss k y s in
     omega (arith, ap (λ (z : Symbol). z.age) e, leb-true (x.age + d) limit (all_true (age_fits d) ss k x i h))
@@ -96,7 +102,7 @@ delays_run d w (at D b) e o after ho ha =
       holds = λ q h.
           let a = answered_accepted (delay_check d b) b.state q (sym ho ∙ h) in
           let t = and_parts (leb d limit) _ (passed (delay_fits d b) 13 done tt a.0).0 in
-          let s = and_parts (all (clock_fits d) b.clocks) _ t.1 in
+          let s = and_parts (list_all (clock_fits d) b.clocks) _ t.1 in
           (D, b, waited d b, e, (refl, refl, refl), leb-true d limit t.0, (clocks_limited d b.clocks s.0, ages_limited d b.stack s.1), ran w after (delay_check d b) D (waited d b) ha a.0, sym a.1);
       only = λ E x c r (w1, w2, w3) h l.
           let p = sym e ∙ r in
@@ -112,7 +118,7 @@ delays d w o after ho ha = delays_run d w w.run refl o after ho ha
 -- firing
 
 pop_top : (l : ℕ) (ss : List Symbol) → labelled l (top ss) ≡ true → ss ≡ (record { label = l; age = age_of (top ss) }) ∷ below ss
-pop_top l [] h = absurd (let x : ◌≡◌ {A = ℕ} 0 1 = cc in omega arith)
+pop_top l [] h = absurd (cc)
 pop_top l (s ∷ ss) h = ap (λ k. (record { label = k; age = s.age }) ∷ ss) (eqb-true s.label l h)
 
 does : (D q v : ℕ) (i : Interval) (a : Action) (c : Configuration) → value_fits a v ≡ true → pop_fits a c.stack ≡ true → push_fits a c.stack ≡ true → timed a (inside D i (measured a c.clocks c.stack v)) ≡ true → Does D i a v c.clocks c.stack (fired a q v c).clocks (fired a q v c).stack × Allows a v c
@@ -176,7 +182,7 @@ unchecked D v b c r (w1, w2, w3) l =
     )
 
 pub nth_sits : {X : Type 0} (xs : List X) (k : ℕ) (x : X) → slice_get xs k ≡ Some x → Sits xs k x
-nth_sits [] k x h = absurd (let z : ◌≡◌ {A = ℕ} 0 1 = cc in omega arith)
+nth_sits [] k x h = absurd (cc)
 nth_sits (y ∷ ys) zero x h = let e : y ≡ x = cc in (omega arith, λ d. e)
 nth_sits (y ∷ ys) (suc k) x h = let s = nth_sits ys k x h in (omega (arith, s.0), s.1)
 
@@ -210,7 +216,7 @@ fires_rule : (k v : ℕ) (w : View) (m : Option Rule) → slice_get w.model.rule
 fires_rule k v w None e o after ho ha =
     record {
       holds = λ q h. absurd (never_accepted 8 q (sym ho ∙ h));
-      only = λ D r b c x i f l. absurd (let n = sits_nth w.model.rules k r i in let z : ◌≡◌ {A = ℕ} 0 1 = cc in omega arith);
+      only = λ D r b c x i f l. absurd (let n = sits_nth w.model.rules k r i in cc);
     }
 fires_rule k v w (Some r) e o after ho ha = fires_run k v w r (nth_sits w.model.rules k r e) w.run refl o after ho ha
 

@@ -1,6 +1,7 @@
-use Rattle.std.specs.Prelude.{◌≡◌, ℕ, List, [], ◌∷◌, ◌++◌, map}
+use Rattle.std.specs.Prelude.{◌≡◌, ℕ, List, [], ◌∷◌, ◌++◌, map, Some, None, Option, Ok, Err, Result}
 use Rattle.fault.specs.Faults.{Outcome, number, layer}
 use Rattle.fault.specs.Faults.Outcome.{accepted, refused}
+use Rattle.fault.specs.declared.Fault.{Fault}
 use Rattle.fault.specs.declared.Layer.{Layer}
 use Rattle.fault.specs.declared.Place.{Place}
 use Rattle.abstraction.specs.Lists.{Sits}
@@ -19,7 +20,7 @@ use Rattle.case.specs.declared.case.Standing.TheVariants.{Undecided, Reachable, 
 use Rattle.case.specs.declared.history.Call.{Call}
 use Rattle.case.specs.declared.history.Call.TheVariants.{Open, Add, Remove, Retarget, Insert, Begin, Delay, Fire, Judge, Ask}
 use Rattle.case.specs.declared.history.Reply.{Reply}
-use Rattle.case.specs.declared.history.Reply.TheVariants.{Unmade, Done, InState, Stands, Refused}
+use Rattle.case.specs.declared.history.Reply.TheVariants.{Done, InState, Stands}
 use Rattle.case.specs.declared.history.Turn.{Turn}
 
 -- a call as the law sees it; a judgment by the answer that it gives on a model
@@ -48,10 +49,14 @@ event ans n (Fire k v) = fires k v
 event ans n (Judge a t top) = judges (λ m. judged (claim (ans a.now) m top t.now) n)
 event ans n Ask = asks
 
+-- what a call answered, once it is made
+abbrev pub Told : Type 0
+Told = Option (Result Reply Fault)
+
 -- a call and its reply
 pub record Noted : Type 0 where
   pub event : Event
-  pub reply : Reply
+  pub reply : Told
 
 abbrev pub noted : {A S : Type 0} → (A → Answers S) → ℕ → Turn A S → Noted
 noted ans n t = record { event = event ans n t.call; reply = t.reply }
@@ -89,12 +94,12 @@ pub data Answer : Type 0 where
   stands : Standing → Answer
   denied : ℕ → Layer → Place → Answer
 
-abbrev pub heard : Reply → Answer
-heard Unmade = none
-heard Done = finished
-heard (InState q) = in_state q
-heard (Stands s) = stands s
-heard (Refused f) = denied (number f.refusal) (layer f.refusal) f.place
+abbrev pub heard : Told → Answer
+heard None = none
+heard (Some (Ok Done)) = finished
+heard (Some (Ok (InState q))) = in_state q
+heard (Some (Ok (Stands s))) = stands s
+heard (Some (Err f)) = denied (number f.refusal) (layer f.refusal) f.place
 
 abbrev pub finish : Outcome (Unit {0}) → Answer
 finish (accepted u) = finished
@@ -187,7 +192,7 @@ settled ts = settled_from fresh Undecided ts
 
 -- what a call promises of the models before and after it, if C: an accepted insertion changes no
 -- state's reachability, and an accepted table keeps the target from every run
-abbrev pub Promised : Type 0 → Event → Reply → Automaton → Automaton → Type 0
+abbrev pub Promised : Type 0 → Event → Told → Automaton → Automaton → Type 0
 Promised C (opens o) r m n = Unit {0}
 Promised C (adds x) r m n = Unit {0}
 Promised C (removes k) r m n = Unit {0}
@@ -218,4 +223,4 @@ pub record OverCalls (C : Type 0) (ts : List Noted) (v : View) : Type 0 where
   pub standing : v.standing ≡ settled ts
   pub unreachable : C → v.standing ≡ Unreachable → Reaches v.model v.model.target → ⊥
   pub reachable : v.standing ≡ Reachable → Reaches v.model v.model.target
-  pub inserted : (us : List Noted) (p : ℕ) (r : Reply) → ts ≡ us ++ (record { event = inserts p; reply = r }) ∷ [] → heard r ≡ finished → SameReach (present (events us)) v.model
+  pub inserted : (us : List Noted) (p : ℕ) (r : Told) → ts ≡ us ++ (record { event = inserts p; reply = r }) ∷ [] → heard r ≡ finished → SameReach (present (events us)) v.model

@@ -1,4 +1,5 @@
 pub mod Views
+pub mod Positions
 pub mod Steps
 pub mod Calls
 pub mod Asking

@@ -1,6 +1,6 @@
 use Rattle.std.specs.Prelude.{ℕ, ◌+◌, Bool, true, false, ◌&&◌, List, [], ◌∷◌, map, length, Some, None, Option, ◌==◌, nat_le, nat_lt, slice_index, slice_set}
 use Rattle.fault.specs.Faults.{Outcome}
-use Rattle.abstraction.specs.Lists.{all}
+use Rattle.std.specs.List.{list_all}
 use Rattle.abstraction.specs.Frames.{plus}
 use Rattle.abstraction.specs.Bounds.{inside}
 use Rattle.automaton.specs.Runs.{Configuration, older}
@@ -24,7 +24,7 @@ abbrev pub age_fits : ℕ → Symbol → Bool
 age_fits d s = nat_le (s.age + d) limit
 
 abbrev pub delay_fits : ℕ → Configuration → Bool
-delay_fits d c = nat_le d limit && (all (clock_fits d) c.clocks && all (age_fits d) c.stack)
+delay_fits d c = nat_le d limit && (list_all (clock_fits d) c.clocks && list_all (age_fits d) c.stack)
 
 abbrev pub delay_check : ℕ → Configuration → Outcome (Unit {0})
 delay_check d c = unless (delay_fits d c) 13 done
@@ -108,11 +108,3 @@ fired (Test k) q v c = record { state = q; clocks = c.clocks; stack = c.stack }
 fired (Assign k) q v c = record { state = q; clocks = slice_set c.clocks k v; stack = c.stack }
 fired (Push l) q v c = record { state = q; clocks = c.clocks; stack = (record { label = l; age = v }) ∷ c.stack }
 fired (Pop l) q v c = record { state = q; clocks = c.clocks; stack = below c.stack }
-
--- the actions that change neither clocks nor stack
-abbrev pub Passive : Action → Type 0
-Passive Move = Unit {0}
-Passive (Test k) = Unit {0}
-Passive (Assign k) = ⊥
-Passive (Push l) = ⊥
-Passive (Pop l) = ⊥

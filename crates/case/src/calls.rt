@@ -11,7 +11,7 @@ ghost use Rattle.case.specs.Calls.{new_case, open_view, add_view, remove_view, r
 
 use super::case::{Case, Standing};
 use super::moves::Asked;
-use super::run::{Progress, Run};
+use super::run::Progress;
 use super::stack::Stack;
 use automaton::{Model, Opening, RuleNumbers};
 use fault::{Fault, Refusal};
@@ -29,7 +29,7 @@ impl Case {
         let stack = Stack::new(heap)?;
         Ok(Case {
             model,
-            run: Run::Idle,
+            run: None,
             stack,
             standing: Standing::Undecided,
         })
@@ -48,6 +48,7 @@ impl Case {
         });
     }
 
+    // The five edits stand alone: one that takes a closure asks for each one's clauses again, as long as these.
     // Sets all sizes, start and target, with no rules.
     pub fn open(&mut self, opening: Opening) -> Result<(), Fault>
         ensures answer { outcome result ≡ open_outcome opening }
@@ -115,12 +116,11 @@ impl Case {
         }
         let state = self.model.start();
         self.stack.clear();
-        self.arrive(Progress {
+        Ok(self.arrive(Progress {
             scale: scale as u32,
             state,
             clocks: [0; 3],
-        });
-        Ok(state)
+        }))
     }
 
     // Lets units pass.

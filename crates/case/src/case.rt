@@ -1,6 +1,6 @@
 // A case: the model that is drawn, the run on it, and what is settled about its target.
 
-use super::run::Run;
+use super::run::Progress;
 use super::stack::Stack;
 use automaton::Model;
 
@@ -14,7 +14,7 @@ pub enum Standing {
 #[derive(Drop)]
 pub struct Case {
     pub(crate) model: Model,
-    pub(crate) run: Run,
+    pub(crate) run: Option<Progress>,
     pub(crate) stack: Stack,
     pub(crate) standing: Standing,
 }

@@ -1,9 +1,8 @@
 // Any list of calls on a new case, and the law over what comes of it.
 
-ghost use Rattle.std.specs.Prelude.{◌≡◌, ℕ, List, [], ◌++◌, length};
-ghost use Rattle.fault.specs.Faults.{outcome};
-ghost use Rattle.case.specs.Views.{View, view};
-ghost use Rattle.case.specs.History.{heard, finish, state as stated, event, Noted, noted, notes_of, calls as calls_of, events, Carries, AllCarry, Makes, Played, OverCalls};
+ghost use Rattle.std.specs.Prelude.{◌≡◌, List, [], ◌++◌, length, Some};
+ghost use Rattle.case.specs.Views.{view};
+ghost use Rattle.case.specs.History.{event, Noted, notes_of, calls as calls_of, events, Carries, AllCarry, Makes, Played, OverCalls};
 
 use super::case::{Case, Standing};
 use abstraction::{Abstraction, Listing};
@@ -26,39 +25,19 @@ pub enum Call<'a, A: Abstraction> {
     Ask,
 }
 
-// What a call answered.
-#[derive(Clone, Copy)]
+// What a call answered that was not refused.
+#[derive(Clone, Copy, Debug, PartialEq, Eq)]
 pub enum Reply {
-    Unmade,
     Done,
     InState(u8),
     Stands(Standing),
-    Refused(Fault),
 }
 
 // A call and its reply, once it is made.
 #[derive(Drop)]
 pub struct Turn<'a, A: Abstraction> {
     pub call: Call<'a, A>,
-    pub reply: Reply,
-}
-
-fn done(r: Result<(), Fault>) -> Reply
-    ensures { heard result ≡ finish (outcome r) }
-{
-    match r {
-        Ok(()) => Reply::Done,
-        Err(fault) => Reply::Refused(fault),
-    }
-}
-
-fn state(r: Result<u8, Fault>) -> Reply
-    ensures { heard result ≡ stated (outcome r) }
-{
-    match r {
-        Ok(state) => Reply::InState(state),
-        Err(fault) => Reply::Refused(fault),
-    }
+    pub reply: Option<Result<Reply, Fault>>,
 }
 
 // Makes one call.
@@ -67,23 +46,23 @@ fn make<A: Abstraction>(
     call: &Call<A>,
     scratch: &mut [u8],
     listing: &mut Listing<A::Shape>,
-) -> Reply
-    ensures made { Makes (Carries A.Abstraction.answers A.Abstraction.meaning call.now) (record { event = event A.Abstraction.answers (length scratch.old) call.now; reply = result }) (view case.old) (view case.new) }
+) -> Result<Reply, Fault>
+    ensures made { Makes (Carries A.Abstraction.answers A.Abstraction.meaning call.now) (record { event = event A.Abstraction.answers (length scratch.old) call.now; reply = Some result }) (view case.old) (view case.new) }
     ensures room { length scratch.new ≡ length scratch.old }
 {
     match call {
-        Call::Open(opening) => done(case.open(*opening)),
-        Call::Add(numbers) => done(case.add(*numbers)),
-        Call::Remove(place) => done(case.remove(*place)),
-        Call::Retarget(target) => done(case.retarget(*target)),
-        Call::Insert(place) => done(case.insert(*place)),
-        Call::Begin(scale) => state(case.begin(*scale)),
-        Call::Delay(units) => state(case.delay(*units)),
-        Call::Fire(place, value) => state(case.fire(*place, *value)),
-        Call::Judge(abstraction, table, top) => {
-            done(case.judge(*abstraction, *table, *top, scratch, listing))
-        }
-        Call::Ask => Reply::Stands(case.standing()),
+        Call::Open(opening) => case.open(*opening).map(|_| Reply::Done),
+        Call::Add(numbers) => case.add(*numbers).map(|_| Reply::Done),
+        Call::Remove(place) => case.remove(*place).map(|_| Reply::Done),
+        Call::Retarget(target) => case.retarget(*target).map(|_| Reply::Done),
+        Call::Insert(place) => case.insert(*place).map(|_| Reply::Done),
+        Call::Begin(scale) => case.begin(*scale).map(Reply::InState),
+        Call::Delay(units) => case.delay(*units).map(Reply::InState),
+        Call::Fire(place, value) => case.fire(*place, *value).map(Reply::InState),
+        Call::Judge(abstraction, table, top) => case
+            .judge(*abstraction, *table, *top, scratch, listing)
+            .map(|_| Reply::Done),
+        Call::Ask => Ok(Reply::Stands(case.standing())),
     }
 }
 
@@ -99,7 +78,7 @@ fn play<A: Abstraction>(
     ensures room { length scratch.new ≡ length scratch.old }
 {
     for t in turns.iter_mut() {
-        t.reply = make(case, &t.call, scratch, listing);
+        t.reply = Some(make(case, &t.call, scratch, listing));
     }
 }
 

@@ -1,9 +1,10 @@
 // The clocks and the stack of a run: what a step asks of them and does to them.
 
-ghost use Rattle.std.specs.Prelude.{◌≡◌, ℕ, ◌+◌, ◌<◌, ◌≤◌, true, List, [], ◌∷◌, ◌++◌, map, reverse, length, IfOk};
-ghost use Rattle.abstraction.specs.Lists.{all};
+ghost use Rattle.std.specs.Prelude.{◌≡◌, ◌<◌, true, [], ◌∷◌, map, length, IfOk};
+ghost use Rattle.std.specs.List.{list_all};
 ghost use Rattle.abstraction.specs.Frames.{plus};
 ghost use Rattle.automaton.specs.Runs.{older};
+ghost use Rattle.case.specs.Views.{stacked};
 ghost use Rattle.case.specs.Steps.{clock_fits, age_fits, top as top_of, labelled, pop_fits, push_fits, below};
 
 use super::stack::Stack;
@@ -14,22 +15,23 @@ pub(crate) const LIMIT: u64 = 1_000_000_000_000_000;
 
 const DEPTH: usize = 128;
 
-// Whether each clock keeps to the limit after so many units.
-pub(crate) fn clocks_fit(clocks: &[u64], units: u64) -> bool
-    requires { units ≤ 1000000000000000 }
-    ensures { result ≡ all (clock_fits units) clocks.now }
+// Whether a number keeps to the limit after so many units.
+fn fits(x: u64, units: u64) -> bool
+    ensures { result ≡ clock_fits units x }
 {
-    for x in clocks {
-        if *x > LIMIT - units {
-            return false;
-        }
-    }
-    true
+    x.saturating_add(units) <= LIMIT
+}
+
+// Whether each clock does.
+pub(crate) fn clocks_fit(clocks: &[u64], units: u64) -> bool
+    ensures { result ≡ list_all (clock_fits units) clocks.now }
+{
+    clocks.iter().all(|x| fits(*x, units))
 }
 
 // Adds the units to each clock.
 pub(crate) fn grow(clocks: &mut [u64], units: u64)
-    requires { all (clock_fits units) clocks.old ≡ true }
+    requires { list_all (clock_fits units) clocks.old ≡ true }
     ensures { clocks.new ≡ plus units clocks.old }
 {
     for x in clocks.iter_mut() {
@@ -37,66 +39,39 @@ pub(crate) fn grow(clocks: &mut [u64], units: u64)
     }
 }
 
-fn symbols_fit(symbols: &[Symbol], units: u64) -> bool
-    requires { units ≤ 1000000000000000 }
-    ensures { result ≡ all (age_fits units) symbols.now }
-{
-    for s in symbols {
-        if s.age > LIMIT - units {
-            return false;
-        }
-    }
-    true
-}
-
-fn age(symbol: &mut Symbol, units: u64)
-    requires { age_fits units symbol.old ≡ true }
-    ensures { symbol.new ≡ older units symbol.old }
-{
-    symbol.age += units;
-}
-
 impl Stack {
     pub(crate) fn new(heap: Global) -> Result<Stack, AllocError>
-        ensures { IfOk result (λ s. s.symbols.items ≡ []) }
+        ensures { IfOk result (λ s. stacked s ≡ []) }
     {
         let symbols = Vec::with_capacity(heap, DEPTH)?;
         Ok(Stack { symbols })
     }
 
     pub(crate) fn clear(&mut self)
-        ensures { self.new.symbols.items ≡ [] }
+        ensures { stacked self.new ≡ [] }
     {
         self.symbols.truncate(0);
     }
 
     pub(crate) fn top(&self) -> Option<Symbol>
-        ensures { result ≡ top_of (reverse self.now.symbols.items) }
+        ensures { result ≡ top_of (stacked self.now) }
     {
-        let n = self.symbols.len();
-        if n == 0 {
-            None
-        } else {
-            Some(self.symbols[n - 1])
-        }
+        self.symbols.last().copied()
     }
 
     // Whether the action's pop finds its label on top.
     pub(crate) fn can_pop(&self, action: Action) -> bool
-        ensures { result ≡ pop_fits action (reverse self.now.symbols.items) }
+        ensures { result ≡ pop_fits action (stacked self.now) }
     {
         match action {
-            Action::Pop(label) => match self.top() {
-                Some(s) => s.label == label,
-                None => false,
-            },
+            Action::Pop(label) => self.top().is_some_and(|s| s.label == label),
             _ => true,
         }
     }
 
     // Whether the action's push finds room.
     pub(crate) fn can_push(&self, action: Action) -> bool
-        ensures { result ≡ push_fits action (reverse self.now.symbols.items) }
+        ensures { result ≡ push_fits action (stacked self.now) }
     {
         match action {
             Action::Push(_) => self.symbols.len() < DEPTH,
@@ -105,32 +80,30 @@ impl Stack {
     }
 
     pub(crate) fn can_age(&self, units: u64) -> bool
-        requires { units ≤ 1000000000000000 }
-        ensures { result ≡ all (age_fits units) (reverse self.now.symbols.items) }
+        ensures { result ≡ list_all (age_fits units) (stacked self.now) }
     {
-        symbols_fit(&self.symbols, units)
+        self.symbols.iter().rev().all(|s| fits(s.age, units))
     }
 
     // Adds the units to each age.
     pub(crate) fn age(&mut self, units: u64)
-        requires { all (age_fits units) (reverse self.old.symbols.items) ≡ true }
-        ensures { reverse self.new.symbols.items ≡ map (older units) (reverse self.old.symbols.items) }
+        requires { list_all (age_fits units) (stacked self.old) ≡ true }
+        ensures { stacked self.new ≡ map (older units) (stacked self.old) }
     {
-        let n = self.symbols.len();
-        for i in 0..n {
-            age(&mut self.symbols[i], units);
+        for s in self.symbols.iter_mut() {
+            s.age += units;
         }
     }
 
     pub(crate) fn push(&mut self, symbol: Symbol)
-        requires { length (reverse self.old.symbols.items) < 128 }
-        ensures { reverse self.new.symbols.items ≡ symbol ∷ reverse self.old.symbols.items }
+        requires { length (stacked self.old) < 128 }
+        ensures { stacked self.new ≡ symbol ∷ stacked self.old }
     {
         self.symbols.push_reserved(symbol);
     }
 
     pub(crate) fn pop(&mut self)
-        ensures { reverse self.new.symbols.items ≡ below (reverse self.old.symbols.items) }
+        ensures { stacked self.new ≡ below (stacked self.old) }
     {
         let _ = self.symbols.pop();
     }

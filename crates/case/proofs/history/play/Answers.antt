@@ -1,7 +1,6 @@
-use Rattle.std.proofs.Common.{◌<◌, ◌≤◌, map, length, refl, ◌∙◌, subst, arith, take_all}
+use Rattle.std.proofs.Common.{◌<◌, length, refl, ◌∙◌, arith}
 use lib.Seq.{map-set_same}
 use Rattle.case.specs.Views.{view}
-use Rattle.case.specs.History.{noted, calls, AllCarry, Played}
 use Rattle.case.proofs.Past.{plays_more}
 use Rattle.case.proofs.history.play.Goals as goal
 
@@ -9,17 +8,7 @@ pub loop-t-preserved : goal.loop-t-preserved
 loop-t-preserved g c =
     let h : c.loop-t.t-index < length c.loop-t.turns = omega arith in
     let i = c.loop-t.invariant in (
-      plays_more g.A.Abstraction.answers g.A.Abstraction.meaning c.args.turns.now c.loop-t.turns _ (view c.loop-t.case) _ c.loop-t.t-index _ _ c.t-item.result _ h i.1 i.2 i.0 c.make-t.ensures.made,
+      plays_more g.A.Abstraction.answers g.A.Abstraction.meaning c.args.turns.now c.loop-t.turns _ (view c.loop-t.case) _ c.loop-t.t-index _ _ c.t-item.result _ h i.1 i.2 i.0 c.make.ensures.made,
       map-set_same (λ t. t.call) c.loop-t.turns c.loop-t.t-index _ c.t-item.result refl ∙ i.1,
-      c.make-t.ensures.room ∙ i.2,
+      c.make.ensures.room ∙ i.2,
     )
-
-pub returns : goal.returns
-returns g c =
-    let h : length c.loop-t.turns ≤ c.loop-t.t-index = omega arith in
-    let i = c.loop-t.invariant in
-    record {
-      played = subst (λ ts. Played (AllCarry g.A.Abstraction.answers g.A.Abstraction.meaning (calls c.args.turns.now)) (view c.args.case.now) (map (noted g.A.Abstraction.answers (length c.args.scratch.now)) ts) (view c.loop-t.case)) (take_all c.loop-t.t-index c.loop-t.turns h) i.0;
-      same = i.1;
-      room = i.2;
-    }

@@ -1,25 +1,35 @@
-use Rattle.std.proofs.Common.{◌<◌, ◌≤◌, reverse, length, set, sym, ap, ◌∙◌, arith}
+use Rattle.std.proofs.Common.{◌≡◌, ◌+◌, true, map, reverse, get_or, sym, ap, ◌∙◌, arith, rules}
+use Rattle.std.specs.List.{list_all}
+use Rattle.std.proofs.lemmas.Bool.{leb-true}
+use Rattle.std.proofs.lemmas.List.{with_items_is}
 use Rattle.std.proofs.lemmas.List.Edits.{map_over_more}
 use Rattle.automaton.specs.Runs.{older}
+use Rattle.automaton.specs.declared.rule.Symbol.{Symbol}
 use Rattle.automaton.proofs.InPlace.{map_over_all}
-use Rattle.case.specs.Steps.{age_fits}
+use Rattle.case.specs.Steps.{age_fits, limit}
 use Rattle.case.proofs.Stacks.{all_reverse, map_reverse, holds_here}
 use Rattle.case.proofs.stack.Stack.age.Goals as goal
 
-pub age-requires : goal.age-requires
-age-requires c =
-    let xs = c.args.self.now.symbols.items in
-    let h : c.loop-i.i < length xs = omega arith in
-    holds_here (age_fits c.args.units) (older c.args.units) xs _ c.loop-i.i _ h c.loop-i.invariant.0 c.index_mut.ensures.value (sym (all_reverse (age_fits c.args.units) xs) ∙ c.requires)
+pub overflow_add-s : goal.overflow_add-s
+overflow_add-s c =
+    let d = c.args.units in
+    let ys = c.loop-s.s-items in
+    let i = c.loop-s.s-index in
+    let none : Symbol = record { label = 0; age = 0 } in
+    let lent = c.deref_mut-s-items in
+    let fit : list_all (age_fits d) lent.result.now ≡ true =
+    ap (list_all (age_fits d)) lent.ensures.value ∙ sym (all_reverse (age_fits d) c.args.self.now.symbols.items) ∙ c.requires in
+    omega (arith, leb-true ((get_or ys i none).age + d) limit (holds_here (age_fits d) (older d) lent.result.now ys i none c.loop-s-test.true c.loop-s.invariant fit))
 
-pub loop-i-preserved : goal.loop-i-preserved
-loop-i-preserved c =
-    let xs = c.args.self.now.symbols.items in
-    let h : c.loop-i.i < length xs = omega arith in
-    (ap (set c.loop-i.self.symbols.items c.loop-i.i) c.age.ensures ∙ map_over_more (older c.args.units) xs _ _ _ h c.loop-i.invariant.0 c.index_mut.ensures.value, c.loop-i.invariant.1)
+pub loop-s-preserved : goal.loop-s-preserved
+loop-s-preserved c = search (rules, map_over_more (older c.args.units))
 
 pub returns : goal.returns
 returns c =
-    let xs = c.args.self.now.symbols.items in
-    let h : length xs ≤ c.loop-i.i = omega arith in
-    ap reverse (map_over_all (older c.args.units) xs _ _ h c.loop-i.invariant.0) ∙ map_reverse (older c.args.units) xs
+    let d = c.args.units in
+    let lent = c.deref_mut-s-items in
+    let v = c.args.self.now.symbols in
+    ap reverse (with_items_is v c.loop-s.s-items (omega arith))
+    ∙ ap reverse (map_over_all (older d) lent.result.now c.loop-s.s-items c.loop-s.s-index (omega arith) c.loop-s.invariant)
+    ∙ map_reverse (older d) lent.result.now
+    ∙ ap (λ ss. map (older d) (reverse ss)) lent.ensures.value
