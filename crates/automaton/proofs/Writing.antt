@@ -152,3 +152,7 @@ reads z n o e =
       holds = λ r h. written_read z n r (sym e ∙ h);
       only = λ r w l. e ∙ subst (λ (x : RuleNumbers). read_rule z x ≡ accepted r) w (reads_written z r l);
     }
+
+-- and a rule that is read is the one that the numbers write
+pub rule_read : (z : Sizes) (n : RuleNumbers) (r : Rule) → Reads z n (accepted r) → r ≡ rule n
+rule_read z n r l = sym (rule_back r) ∙ ap rule (l.holds r refl).0

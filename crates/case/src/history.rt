@@ -90,7 +90,8 @@ pub trait Calls: Sized {
     // the calls with their replies
     ghost notes: { Self → List Noted };
 
-    // Makes the calls in order, and gives them back with their replies.
+    // Makes the calls in order, and gives them back with their replies. By value: that one &mut self lends
+    // on three parts at once is not proved.
     fn make(self, case: &mut Case) -> Self
         ensures played { Played (covering self) (view case.old) (notes result) (view case.new) }
         ensures same { events (notes result) ≡ events (notes self) };

@@ -97,7 +97,7 @@ impl Case {
                 p.state = rule.to;
                 Ok(self.arrive(p))
             }
-            (Some(mut p), Asked::Fire(rule, _, value)) => {
+            (Some(mut p), Asked::Fire(rule, Action::Move | Action::Test(_), value)) => {
                 self.position(&p).may_fire(rule, value)?;
                 p.state = rule.to;
                 Ok(self.arrive(p))
