@@ -121,7 +121,7 @@ pub fn next_rank(items: &[Item], above: u8) -> Option<u8>
         .min()
 }
 
-// How many ranks from 1 to `rank` are in use.
+// How many ranks from 1 to `rank` are in use. A filter over 1..=rank would look at each number.
 fn ranks_to(items: &[Item], rank: u8) -> u8
     ensures { result ≡ steps (has_rank items.now) rank }
 {
