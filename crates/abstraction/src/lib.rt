@@ -130,7 +130,8 @@ impl<S: Copy> Listing<S> {
 // An abstraction has shapes of its own kind and answers questions about them. Its answers are given
 // by `answers`, the same each time; `meaning` says which frames a shape covers. Every list holds
 // lawful shapes, at most 1,048,576. That the lists cover is not asked here: `Covers` says it, and
-// whoever draws conclusions from an answer takes it as a premise.
+// whoever draws conclusions from an answer takes it as a premise. The parts of a question stand apart:
+// each question has others, so a struct for them would be no plainer.
 pub trait Abstraction {
     type Shape: Copy;
 

@@ -1,4 +1,5 @@
-// The edits of a model, each accepted or refused as a whole.
+// The edits of a model, each accepted or refused as a whole. Each says `kept` of its own: it ties two
+// states, which no invariant of the type does.
 
 ghost use Rattle.std.specs.Prelude.{◌≡◌, false, is_ok, IfOk};
 ghost use Rattle.fault.specs.Faults.{outcome};
@@ -12,7 +13,7 @@ use super::table::RuleTable;
 use fault::{Fault, Refusal};
 use std::alloc::{AllocError, Global};
 
-const RULES: usize = 64;
+pub const RULES: usize = 64;
 
 fn sizes_fit(o: Opening) -> bool
     ensures { result ≡ sizes_fit o }

@@ -9,6 +9,7 @@ mod reading;
 mod rule;
 mod table;
 
+pub use edits::RULES;
 pub use model::{Model, Opening};
 pub use rule::{Action, Rule, RuleNumbers, Sizes, Symbol};
 pub use table::RuleTable;

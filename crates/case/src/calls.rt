@@ -1,4 +1,5 @@
-// The calls on a case. Each takes all numbers, and works or refuses; a refusal changes nothing.
+// The calls on a case. Each takes all numbers, and works or refuses; a refusal changes nothing. Each says
+// `kept` of its own: it ties two states, which no invariant of the type does.
 
 ghost use Rattle.std.specs.Prelude.{◌≡◌, ℕ, false, is_ok, IfOk};
 ghost use Rattle.fault.specs.Faults.{outcome};

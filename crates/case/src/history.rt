@@ -40,7 +40,8 @@ pub struct Turn<'a, A: Abstraction> {
     pub reply: Option<Result<Reply, Fault>>,
 }
 
-// Makes one call.
+// Makes one call. What judgments are lent, the scratch and the listing, comes beside the case, as `judge`
+// takes it; that the scratch keeps its length ties two states, and is said by each that lends it on.
 fn make<A: Abstraction>(
     case: &mut Case,
     call: &Call<A>,

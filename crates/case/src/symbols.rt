@@ -11,6 +11,7 @@ use super::stack::Stack;
 use automaton::{Action, Symbol};
 use std::alloc::{AllocError, Global};
 
+// The greatest time. A text's numbers end there too, but the reader knows of no times.
 pub(crate) const LIMIT: u64 = 1_000_000_000_000_000;
 
 const DEPTH: usize = 128;

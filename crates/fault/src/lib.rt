@@ -46,7 +46,8 @@ pub enum Layer {
     Evidence,
 }
 
-// Where the fault lies: a byte of a text, a row of an object (0 for none), or a place in a table.
+// Where the fault lies: a byte of a text, a row of an object (0 for none), or a place in a table (64 for no
+// rule, 2048 for no entry). Numbers also for none, since users know a place by the numbers of its line.
 #[derive(Clone, Copy, Debug, PartialEq, Eq)]
 pub enum Place {
     Byte(u64),

@@ -130,6 +130,7 @@ fn full(rt: HostRuntime) -> Result<(), Fail> {
     Ok(())
 }
 
+// Judge's tests have the same: two crates share no test code.
 fn row(root: u64, state: u64, label: u64) -> Entry<Anything> {
     Entry {
         root,

@@ -11,12 +11,10 @@ use super::entry::Entry;
 use super::judging::Judging;
 use super::want::{beside, roots};
 use abstraction::{Abstraction, Listing};
-use automaton::{Action, Rule};
+use automaton::{Action, RULES, Rule};
 use fault::Place;
 
 pub(crate) const MOST_ENTRIES: usize = 2048;
-
-const MOST_RULES: usize = 64;
 
 // The place of an entry, of a rule at it, and of an entry above it. Where there is none, its limit
 // stands, as users are told it.
@@ -25,7 +23,7 @@ pub(crate) fn at(entry: Option<usize>, rule: Option<usize>, above: Option<usize>
 {
     Place::Table {
         entry: entry.unwrap_or(MOST_ENTRIES) as u64,
-        rule: rule.unwrap_or(MOST_RULES) as u64,
+        rule: rule.unwrap_or(RULES) as u64,
         above: above.unwrap_or(MOST_ENTRIES) as u64,
     }
 }

@@ -47,7 +47,8 @@ impl<'j, A: Abstraction> Judging<'j, A> {
             .any(|(k, e)| self.takes(w, s, k, e))
     }
 
-    // Whether each of the shapes is taken by some wanted entry.
+    // Whether each of the shapes is taken by some wanted entry. A search that a label leaves: the form that
+    // the project asks for here.
     pub(crate) fn all_taken(&self, w: Want, shapes: &[A::Shape]) -> bool
         ensures { result ≡ all_taken (claim_of A.Abstraction.answers self.now) w shapes.now }
     {

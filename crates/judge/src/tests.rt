@@ -6,6 +6,7 @@ use std::alloc::Global;
 use std::process::Abort;
 use std::test::Fail;
 
+// The tests of figures have the same: two crates share no test code.
 fn row(root: u64, state: u64, label: u64) -> Entry<Anything> {
     Entry {
         root,

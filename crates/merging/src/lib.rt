@@ -368,6 +368,7 @@ mod tests {
     use super::*;
     use std::test::Fail;
 
+    // Ranking's tests have the same: two crates share no test code.
     fn item(whole: u8, rank: u8) -> Item {
         Item { whole, rank }
     }

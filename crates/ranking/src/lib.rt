@@ -169,6 +169,7 @@ pub fn join(out: &mut Listing<Region>, region: Region)
 mod tests {
     use super::*;
 
+    // The tests of merging have the same: two crates share no test code.
     fn item(whole: u8, rank: u8) -> Item {
         Item { whole, rank }
     }

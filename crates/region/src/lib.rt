@@ -65,7 +65,7 @@ fn with_item(region: Region, place: usize, item: Item) -> Region
     ensures { result ≡ with_items (slice_set region.items place item) }
 {
     let mut next = region;
-    // (c) With `get_mut` the proof does not know what is written.
+    // Not by get_mut, after which a proof does not know what is written.
     if place < 9 {
         next.items[place] = item;
     }

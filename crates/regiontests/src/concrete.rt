@@ -147,7 +147,7 @@ pub(crate) fn scaled(frame: &Frame, times: u16) -> Frame {
     frame.map(|value| value.wrapping_mul(times))
 }
 
-// Every value later.
+// Every value later. Like `scaled` but for the operation, each a line of `map`.
 pub(crate) fn later(frame: &Frame, units: u16) -> Frame {
     frame.map(|value| value.wrapping_add(units))
 }

@@ -234,15 +234,10 @@ impl Pops {
 
     // Whether each list for the frame below and one above holds what was gathered, and nothing else.
     fn lists_gathered(self, out: &mut Listing<Region>, pairs: &[Pair]) -> bool {
-        for pair in pairs {
+        pairs.iter().all(|pair| {
             self.list(pair.above, out);
-            if !out.shapes().contains(&pair.popped)
-                || out.shapes().len() != count(pairs, pair.above)
-            {
-                return false;
-            }
-        }
-        true
+            out.shapes().contains(&pair.popped) && out.shapes().len() == count(pairs, pair.above)
+        })
     }
 
     // Whether nothing is listed for regions above that do not stand on the frame below.

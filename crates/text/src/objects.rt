@@ -1,4 +1,5 @@
-// The objects of a text: each is read, its calls are made, and its answer is noted.
+// The objects of a text: each is read, its calls are made, and its answer is noted. Each function says of
+// its own how many answers are noted: it depends on the tokens that the reader had ahead.
 
 ghost use Rattle.std.specs.Prelude.{◌≡◌, ◌+◌, ◌≤◌, ◌++◌, map, vec_len};
 ghost use Rattle.fault.specs.Faults.{outcome};

@@ -1,4 +1,5 @@
-// How long the token at the front of some bytes is, and the parts of a number. Each says `within`
+// How long the token at the front of some bytes is, and the parts of a number; of a part that may be
+// missing, 0 is the true length. Each says `within`
 // of its own: the bytes differ from call to call, so a type that held the bound would be no plainer.
 
 ghost use Rattle.std.specs.Prelude.{◌≡◌, ◌≤◌, length, IfSome};
