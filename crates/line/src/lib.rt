@@ -17,6 +17,7 @@ pub type Answer = Result<Standing, Fault>;
 // No line is longer.
 pub const LONGEST: usize = 101;
 
+// Words are appended one by one: `write!` does not promise to write what fits.
 type Line = ArrayString<LONGEST>;
 
 fn layer_word(layer: Layer) -> &'static str
