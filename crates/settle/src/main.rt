@@ -2,7 +2,7 @@
 
 // Reads a text from standard input, and prints one line for each of its objects.
 
-ghost use Rattle.std.specs.Prelude.{◌≡◌, take, IfOk, IfSome, option_map};
+ghost use Rattle.std.specs.Prelude.{◌≡◌, ◌≤◌, take, IfOk, IfSome, option_map, vec_len};
 
 use line::{Answer, LONGEST, write_line};
 use std::alloc::Global;
@@ -15,10 +15,12 @@ const ROOM: usize = token::LONGEST + 1;
 
 // The text that the input holds, up to its end or to the byte that tells a longer one.
 fn fill<R: Read + Drop>(input: R, heap: Global) -> io::Result<Vec<u8>>
-    ensures { IfOk result (λ text. IfSome (option_map (take 65537) (R.remaining input)) (λ bytes. text.items ≡ bytes)) }
+    ensures bytes { IfOk result (λ text. IfSome (option_map (take 65537) (R.remaining input)) (λ bytes. text.items ≡ bytes)) }
+    ensures few { IfOk result (λ text. vec_len text ≤ 65537) }
 {
     let mut text = Vec::with_capacity(heap, ROOM)?;
     input.take(ROOM as u64).read_to_end(&mut text)?;
+    text.truncate(ROOM);
     Ok(text)
 }
 
