@@ -69,7 +69,8 @@ impl Case {
         Ok(self.arrive(p))
     }
 
-    // The run and what is asked of it meet here.
+    // The run and what is asked of it meet here, in one match: the form that the project asks for, so each
+    // arm stands whole.
     pub(crate) fn step(&mut self, asked: Asked) -> Result<u8, Fault>
         requires { Asks (automaton self.old.model).clocks asked }
         ensures answer { outcome result ≡ step_outcome asked (view self.old) }

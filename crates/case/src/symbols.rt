@@ -30,7 +30,8 @@ pub(crate) fn clocks_fit(clocks: &[u64], units: u64) -> bool
     clocks.iter().all(|x| fits(*x, units))
 }
 
-// Adds the units to each clock.
+// Adds the units to each clock. `age` does so to symbols: a closure for their field would be longer than
+// the loop.
 pub(crate) fn grow(clocks: &mut [u64], units: u64)
     requires { list_all (clock_fits units) clocks.old ≡ true }
     ensures { clocks.new ≡ plus units clocks.old }

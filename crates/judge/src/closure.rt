@@ -146,7 +146,7 @@ impl<'j, A: Abstraction> Judging<'j, A> {
 
     // Whether the entry at k is closed, or the first place at which it is not. Pops are looked at
     // under each entry whose root e opens; the marks tell which entries those are.
-    // (d) Marks and listing stay two parameters: callers lend both, and most methods take the listing alone.
+    // Marks and listing stay two parameters: callers lend both, and most methods take the listing alone.
     fn entry_closed(
         &self,
         k: usize,
@@ -163,7 +163,7 @@ impl<'j, A: Abstraction> Judging<'j, A> {
         if let Some(n) = self.open_rule(e, listing) {
             return Err(at(Some(k), Some(n), None));
         }
-        // (c) By index: of marks that a zip lends by iter_mut, no element is known afterwards.
+        // By index: of marks that a zip lends by iter_mut, no element is known afterwards.
         for (i, o) in self.table.iter().enumerate() {
             marks[i] = self.opens(e, *o, listing) as u8;
         }
