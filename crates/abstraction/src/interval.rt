@@ -1,13 +1,13 @@
 // Intervals of time with whole bounds.
 
-// A value keeps to it from the bound on, or only over it.
+// A lower bound: values from the number on, or only those over it.
 #[derive(Clone, Copy, Debug, PartialEq, Eq)]
 pub enum Lower {
     From(u8),
     Over(u8),
 }
 
-// A value keeps to it up to the bound, or only under it, or always.
+// An upper bound: values up to the number, or only those under it, or all.
 #[derive(Clone, Copy, Debug, PartialEq, Eq)]
 pub enum Upper {
     Upto(u8),

@@ -58,7 +58,7 @@ impl Model {
         if !ends_fit(o) {
             return Err(Fault::of_call(Refusal::NoSuchState));
         }
-        self.rules.items.truncate(0);
+        self.rules.items.clear();
         self.sizes = Sizes {
             states: o.states as u8,
             labels: o.labels as u8,

@@ -34,6 +34,7 @@ fn bounds_fit(n: RuleNumbers) -> bool
     bounds && flags && (n.upper_flag < 2 || n.upper == 0)
 }
 
+// These three are called with numbers that fit, so what is left is the last case.
 fn action(kind: u64, argument: u8) -> Action
     ensures { result ≡ acting kind argument }
 {

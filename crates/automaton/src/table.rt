@@ -17,7 +17,7 @@ impl Rule {
         requires { Clocked 3 self.old.action }
         ensures { self.new ≡ raised at self.old }
     {
-        // Two arms, since what one pattern with | that lends a clock changes is not proved.
+        // Two arms: with one pattern for both, a proof does not know what is written through it.
         match &mut self.action {
             Action::Test(clock) if *clock >= at => *clock += 1,
             Action::Assign(clock) if *clock >= at => *clock += 1,

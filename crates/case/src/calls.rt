@@ -49,7 +49,9 @@ impl Case {
         });
     }
 
-    // The five edits stand alone: one that takes a closure asks for each one's clauses again, as long as these.
+    // Each of the five edits is written out: one function for all, with a closure for the edit, would be
+    // as long, since each caller has to say its clauses again.
+
     // Sets all sizes, start and target, with no rules.
     pub fn open(&mut self, opening: Opening) -> Result<(), Fault>
         ensures answer { outcome result ≡ open_outcome opening }

@@ -91,8 +91,8 @@ pub trait Calls: Sized {
     // the calls with their replies
     ghost notes: { Self → List Noted };
 
-    // Makes the calls in order, and gives them back with their replies. By value: that one &mut self lends
-    // on three parts at once is not proved.
+    // Makes the calls in order, and gives them back with their replies. By value: a proof of `Then` does not
+    // close where one &mut self lends on its three parts.
     fn make(self, case: &mut Case) -> Self
         ensures played { Played (covering self) (view case.old) (notes result) (view case.new) }
         ensures same { events (notes result) ≡ events (notes self) };

@@ -15,7 +15,8 @@ use super::symbols::grow;
 use automaton::{Action, Rule, Symbol};
 use fault::{Fault, Refusal};
 
-// What is asked of a run: that units pass, or that a rule of some kind is fired with a value.
+// What is asked of a run: that units pass, or that a rule of some kind is fired with a value. The action
+// stands beside its rule for `step` to match on: a pattern inside the rule makes `step` too long.
 #[derive(Clone, Copy)]
 pub(crate) enum Asked {
     Delay(u64),

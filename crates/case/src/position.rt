@@ -30,7 +30,8 @@ fn value_fits(action: Action, value: u64) -> bool
 }
 
 impl<'a> Position<'a> {
-    // What is held against the interval: the clock, the value or the top's age.
+    // What is held against the interval: the clock, the value or the top's age. It is 0 where there is no
+    // such clock or top: a rule that is held names a clock that is there, and a pop is refused without its top.
     fn measured(&self, action: Action, value: u64) -> u64
         ensures { result ≡ measuring action (seen self.now).clocks (seen self.now).stack value }
     {

@@ -52,7 +52,7 @@ impl Stack {
     pub(crate) fn clear(&mut self)
         ensures { stacked self.new ≡ [] }
     {
-        self.symbols.truncate(0);
+        self.symbols.clear();
     }
 
     pub(crate) fn top(&self) -> Option<Symbol>
@@ -81,6 +81,7 @@ impl Stack {
         }
     }
 
+    // The top first, as the stack is listed.
     pub(crate) fn can_age(&self, units: u64) -> bool
         ensures { result ≡ list_all (age_fits units) (stacked self.now) }
     {

@@ -46,8 +46,9 @@ pub enum Layer {
     Evidence,
 }
 
-// Where the fault lies: a byte of a text, a row of an object (0 for none), or a place in a table (64 for no
-// rule, 2048 for no entry). Numbers also for none, since users know a place by the numbers of its line.
+// Where the fault lies: a byte of a text, a row of an object (its head is row 0, and so is a call outside of
+// any object), or a place in a table. There 64 stands for no rule and 2048 for no entry: users and promises
+// know a place by its three numbers, as its line has them.
 #[derive(Clone, Copy, Debug, PartialEq, Eq)]
 pub enum Place {
     Byte(u64),

@@ -5,6 +5,7 @@ use std::alloc::Global;
 use std::process::Abort;
 use std::test::Fail;
 
+// Judge's tests have much the same helpers: two crates share no test code.
 fn entry(root: u64, state: u64, label: u64, age: u64) -> Entry<Floor> {
     Entry {
         root,

@@ -163,7 +163,8 @@ impl<'j, A: Abstraction> Judging<'j, A> {
         if let Some(n) = self.open_rule(e, listing) {
             return Err(at(Some(k), Some(n), None));
         }
-        // By index: of marks that a zip lends by iter_mut, no element is known afterwards.
+        // By index: of marks that a zip lends, a proof knows no element afterwards. Callers lend bytes, so
+        // a mark is one.
         for (i, o) in self.table.iter().enumerate() {
             marks[i] = self.opens(e, *o, listing) as u8;
         }

@@ -11,7 +11,7 @@ use abstraction::{Abstraction, Scope};
 use automaton::Model;
 
 // A model, an abstraction with the bound up to which it is asked, and a table.
-// No Model has the claim as its view: a claim holds functions, and no code tells those apart.
+// The claim is no Model's view: it holds functions, and a model's parts have to be compared.
 #[derive(Drop)]
 pub(crate) struct Judging<'j, A: Abstraction> {
     pub(crate) model: &'j Model,

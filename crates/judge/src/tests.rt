@@ -17,10 +17,10 @@ fn row(root: u64, state: u64, label: u64) -> Entry<Anything> {
 }
 
 // A fault in a table by the number of its refusal and its place.
-fn told(answer: Result<(), Fault>) -> Result<(), (u8, u64, u64, u64)> {
+fn told(answer: Result<(), Fault>) -> Result<(), (u8, Option<(u64, u64, u64)>)> {
     answer.map_err(|f| match f.place {
-        Place::Table { entry, rule, above } => (f.refusal.number(), entry, rule, above),
-        _ => (f.refusal.number(), 0, 0, 0),
+        Place::Table { entry, rule, above } => (f.refusal.number(), Some((entry, rule, above))),
+        _ => (f.refusal.number(), None),
     })
 }
 
@@ -58,7 +58,7 @@ fn untimed(
     rt: &impl Abort,
     heap: Global,
     table: &[Entry<Anything>],
-) -> Result<Result<(), (u8, u64, u64, u64)>, Fail> {
+) -> Result<Result<(), (u8, Option<(u64, u64, u64)>)>, Fail> {
     let model = push_and_pop(rt, heap)?;
     let mut listing = Listing::new(heap)?;
     let mut bytes = [7; 3];
@@ -67,23 +67,31 @@ fn untimed(
 
 #[test]
 fn sizes(rt: HostRuntime) -> Result<(), Fail> {
-    assert!(rt; untimed(&rt, rt.alloc(), &[])? == Err((18, 2048, 64, 2048)));
-    assert!(rt; untimed(&rt, rt.alloc(), &[row(0, 0, 0); 4])? == Err((18, 2048, 64, 2048)));
+    assert!(rt; untimed(&rt, rt.alloc(), &[])? == Err((18, Some((2048, 64, 2048)))));
+    assert!(rt; untimed(&rt, rt.alloc(), &[row(0, 0, 0); 4])? == Err((18, Some((2048, 64, 2048)))));
     Ok(())
 }
 
 #[test]
 fn entries(rt: HostRuntime) -> Result<(), Fail> {
-    assert!(rt; untimed(&rt, rt.alloc(), &[row(0, 0, 0), row(2, 0, 0)])? == Err((19, 1, 64, 2048)));
-    assert!(rt; untimed(&rt, rt.alloc(), &[row(0, 0, 0), row(0, 0, 1)])? == Err((19, 1, 64, 2048)));
-    assert!(rt; untimed(&rt, rt.alloc(), &[row(0, 0, 0), row(0, 3, 0)])? == Err((21, 1, 64, 2048)));
+    assert!(rt;
+        untimed(&rt, rt.alloc(), &[row(0, 0, 0), row(2, 0, 0)])? == Err((19, Some((1, 64, 2048))))
+    );
+    assert!(rt;
+        untimed(&rt, rt.alloc(), &[row(0, 0, 0), row(0, 0, 1)])? == Err((19, Some((1, 64, 2048))))
+    );
+    assert!(rt;
+        untimed(&rt, rt.alloc(), &[row(0, 0, 0), row(0, 3, 0)])? == Err((21, Some((1, 64, 2048))))
+    );
     Ok(())
 }
 
 #[test]
 fn closure(rt: HostRuntime) -> Result<(), Fail> {
-    assert!(rt; untimed(&rt, rt.alloc(), &[row(0, 0, 0)])? == Err((22, 0, 0, 2048)));
-    assert!(rt; untimed(&rt, rt.alloc(), &[row(0, 0, 0), row(1, 1, 1)])? == Err((22, 0, 1, 1)));
+    assert!(rt; untimed(&rt, rt.alloc(), &[row(0, 0, 0)])? == Err((22, Some((0, 0, 2048)))));
+    assert!(rt;
+        untimed(&rt, rt.alloc(), &[row(0, 0, 0), row(1, 1, 1)])? == Err((22, Some((0, 1, 1))))
+    );
     assert!(rt; untimed(&rt, rt.alloc(), &[row(0, 0, 0), row(1, 1, 1), row(0, 2, 0)])? == Ok(()));
     Ok(())
 }

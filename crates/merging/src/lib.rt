@@ -11,7 +11,10 @@ ghost use Rattle.merging.specs.Pop.{mark_item, marked as marked_of, ties_of, sha
 ghost use Rattle.merging.specs.Law.{PopLaw};
 
 use abstraction::{Listing, Scope};
-use ranking::{Item, Region, ceiling, clocks_in_use, closed, items_in_use, join, rotate, top_rank};
+use ranking::{
+    Item, Region, clocks_in_use, closed, item_at, items_in_use, join, rotate, rounds, set_at,
+    top_rank,
+};
 use std::array;
 
 // The frame below is on the left, the one above on the right.
@@ -95,15 +98,6 @@ struct Keys {
     right: [u8; 11],
 }
 
-// Gives a rank its place. Not by get_mut, after which a proof knows no element.
-fn place(keys: &mut [u8], rank: u8, key: u8)
-    ensures { keys.new ≡ slice_set keys.old rank key }
-{
-    if (rank as usize) < keys.len() {
-        keys[rank as usize] = key;
-    }
-}
-
 impl Keys {
     fn of(self, side: Side, rank: u8) -> u8
         ensures { result ≡ slice_index (keys_on side self) rank }
@@ -120,8 +114,8 @@ impl Keys {
     {
         let mut next = self;
         match side {
-            Side::Left => place(&mut next.left, rank, key),
-            Side::Right => place(&mut next.right, rank, key),
+            Side::Left => set_at(&mut next.left, rank as usize, key),
+            Side::Right => set_at(&mut next.right, rank as usize, key),
         }
         next
     }
@@ -213,23 +207,17 @@ fn merge(ties: &[Tie], left: &[u8], right: &[u8], key: u8, draft: Draft, out: &m
     }
 }
 
-fn at(items: &[Item], i: usize) -> Item
-    ensures { result ≡ slice_index_or items.now i none }
-{
-    items.get(i).copied().unwrap_or(Item::NONE)
-}
-
 // The item at a place of the frame below with a mark, of no whole part and no fraction, after its age.
 fn mark_at(items: &[Item], clocks: usize, i: usize) -> Item
     requires { clocks ≤ 3 }
     ensures { result ≡ mark_item clocks items.now i }
 {
     if i < clocks + 1 {
-        at(items, i)
+        item_at(items, i)
     } else if i == clocks + 1 {
         Item::NONE
     } else {
-        at(items, i - 1)
+        item_at(items, i - 1)
     }
 }
 
@@ -246,11 +234,11 @@ fn part(below: &[Item], above: &[Item], clocks: usize, i: usize) -> Item
     ensures { result ≡ part_of clocks below.now above.now i }
 {
     if i < clocks {
-        at(above, i)
+        item_at(above, i)
     } else if i == clocks {
-        at(below, i)
+        item_at(below, i)
     } else {
-        at(below, i + 1)
+        item_at(below, i + 1)
     }
 }
 
@@ -258,8 +246,8 @@ fn tie_all(below: &[Item], above: &[Item]) -> [Tie; 5]
     ensures { result ≡ ties_of below.now above.now }
 {
     array::from_fn(|i| Tie {
-        left: at(below, i),
-        right: at(above, i),
+        left: item_at(below, i),
+        right: item_at(above, i),
     })
 }
 
@@ -344,13 +332,6 @@ fn try_rotations(
     }
 }
 
-// After so many rotations no new ones come.
-fn rounds(scope: Scope, below: &[Item]) -> usize
-    ensures { result ≡ rounds_of scope below.now }
-{
-    2 * (top_rank(below) as usize + 1) * (ceiling(scope, 0) as usize + 2)
-}
-
 // Lists each region that the frame below, `s`, can come to when the frame above, `u`, is popped.
 pub fn pops(scope: Scope, s: Region, u: Region, out: &mut Listing<Region>)
     ensures value { shapes_of out.new ≡ popping scope s u }
@@ -359,7 +340,7 @@ pub fn pops(scope: Scope, s: Region, u: Region, out: &mut Listing<Region>)
     out.clear();
     let used = items_in_use(scope);
     let mut below = marked(&s.items, clocks_in_use(scope));
-    let most = rounds(scope, &below[0..used + 1]);
+    let most = rounds(scope, top_rank(&below[0..used + 1]));
     try_rotations(scope, most, &mut below[0..used + 1], &u.items[0..used], out);
 }
 

@@ -29,6 +29,10 @@ places w = 2 * clocks_of w + 3
 abbrev pub ceiling : Scope → ℕ → ℕ
 ceiling w i = min w.top 15
 
+-- after so many rotations of items with ranks up to k no new ones come
+abbrev pub rounds : Scope → ℕ → ℕ
+rounds w k = 2 * (k + 1) * (ceiling w 0 + 2)
+
 -- f of each place, counted from k, and what stands there
 abbrev pub each : {X : Type 0} → (ℕ → X → X) → ℕ → List X → List X
 each f k [] = []

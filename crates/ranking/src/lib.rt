@@ -3,9 +3,9 @@
 // Items with whole parts and ranked fractions, and regions of them: their rotation, the closing up of
 // their ranks, and lists that hold each region once.
 
-ghost use Rattle.std.specs.Prelude.{◌≡◌, ◌≤◌, map};
+ghost use Rattle.std.specs.Prelude.{◌≡◌, ◌≤◌, map, slice_index_or, slice_set};
 ghost use Rattle.abstraction.specs.Room.{shapes as shapes_of};
-ghost use Rattle.ranking.specs.Items.{clocks_of, places, ceiling as ceiling_of};
+ghost use Rattle.ranking.specs.Items.{none, clocks_of, places, ceiling as ceiling_of, rounds as rounds_of};
 ghost use Rattle.ranking.specs.Close.{has_rank, next_rank, steps, shut_item, closed as closed_up};
 ghost use Rattle.ranking.specs.Rotation.{has_zero, greatest, fallen, rotated, turned as turned_once};
 ghost use Rattle.ranking.specs.Joined.{join as joined};
@@ -54,6 +54,29 @@ pub fn ceiling(scope: Scope, place: usize) -> u8
     ensures small { result ≤ 15 }
 {
     scope.top.min(15) as u8
+}
+
+// The item at a place; past the end there is none.
+pub fn item_at(items: &[Item], place: usize) -> Item
+    ensures { result ≡ slice_index_or items.now place none }
+{
+    items.get(place).copied().unwrap_or(Item::NONE)
+}
+
+// Writes at a place; past the end nothing. Not by get_mut, after which a proof knows no element.
+pub fn set_at<T: Copy>(items: &mut [T], place: usize, item: T)
+    ensures { items.new ≡ slice_set items.old place item }
+{
+    if place < items.len() {
+        items[place] = item;
+    }
+}
+
+// After so many rotations of items with ranks up to `most` no new ones come.
+pub fn rounds(scope: Scope, most: u8) -> usize
+    ensures { result ≡ rounds_of scope most }
+{
+    2 * (most as usize + 1) * (ceiling(scope, 0) as usize + 2)
 }
 
 // Whether some item has no fraction.

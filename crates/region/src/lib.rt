@@ -19,7 +19,10 @@ ghost use Rattle.region.specs.Owing.{lists_lawfully};
 
 use abstraction::{Abstraction, Interval, Listing, Lower, Scope, Upper};
 use merging::pops;
-use ranking::{Item, Region, ceiling, clocks_in_use, closed, items_in_use, join, top_rank, turned};
+use ranking::{
+    Item, Region, ceiling, clocks_in_use, closed, item_at, items_in_use, join, rounds, set_at,
+    top_rank, turned,
+};
 use std::array::from_fn;
 
 fn small(scope: Scope) -> bool
@@ -55,20 +58,11 @@ fn inside(interval: Interval, item: Item) -> bool
     above(interval.lower, item) && below(interval.upper, item)
 }
 
-fn item_at(region: Region, place: usize) -> Item
-    ensures { result ≡ slice_index_or region.items place none }
-{
-    region.items.get(place).copied().unwrap_or(Item::NONE)
-}
-
 fn with_item(region: Region, place: usize, item: Item) -> Region
     ensures { result ≡ with_items (slice_set region.items place item) }
 {
     let mut next = region;
-    // Not by get_mut, after which a proof does not know what is written.
-    if place < 9 {
-        next.items[place] = item;
-    }
+    set_at(&mut next.items, place, item);
     next
 }
 
@@ -141,7 +135,7 @@ impl Scoped {
     fn rounds(self) -> usize
         ensures { result ≡ rounds_of self.scope self.region }
     {
-        2 * (self.most() as usize + 1) * (ceiling(self.scope, 0) as usize + 2)
+        rounds(self.scope, self.most())
     }
 
     fn list_rotations(self, out: &mut Listing<Region>)
@@ -188,9 +182,9 @@ impl Scoped {
     {
         let clocks = clocks_in_use(self.scope);
         if place < clocks {
-            item_at(self.region, place)
+            item_at(&self.region.items, place)
         } else if clocks < place && place < 2 * clocks + 2 {
-            item_at(self.region, place - (clocks + 1))
+            item_at(&self.region.items, place - (clocks + 1))
         } else {
             Item::NONE
         }
@@ -241,7 +235,7 @@ impl Filling {
     fn lies(self) -> bool
         ensures { result ≡ lies_in self.interval (slice_index_or self.base.region.items self.place none) }
     {
-        inside(self.interval, item_at(self.base.region, self.place))
+        inside(self.interval, item_at(&self.base.region.items, self.place))
     }
 
     fn list_placed(self, item: Item, out: &mut Listing<Region>)
@@ -279,7 +273,7 @@ fn asks_pop(scope: Scope, interval: Interval, s: Region, u: Region) -> bool
     Scoped { scope, region: s }.lawful()
         && Scoped { scope, region: u }.lawful()
         && interval.fits(scope.top)
-        && inside(interval, item_at(u, clocks_in_use(scope)))
+        && inside(interval, item_at(&u.items, clocks_in_use(scope)))
 }
 
 // The abstraction by regions. A region is within another only where they are equal.

@@ -84,6 +84,7 @@ impl World {
         Region { items }
     }
 
+    // Apart from `Interval::contains`, which the lists rest on.
     pub(crate) fn lies(self, interval: Interval, value: u16) -> bool {
         let above = match interval.lower {
             Lower::From(b) => (b as u16).wrapping_mul(self.scale) <= value,

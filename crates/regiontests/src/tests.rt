@@ -42,6 +42,7 @@ fn on_each_frame<F: FnMut(u32, &Frame) -> Result<bool, AllocError>>(
     requires { F.IsAlwaysCallable check }
 {
     let mut frame = [0u16; 9];
+    // More than there are in any of the tests; a test that meets more fails.
     for k in 0..100_000u32 {
         if !check(k, &frame)? {
             return Ok(false);
@@ -97,7 +98,7 @@ impl Question {
     ) -> Result<bool, AllocError> {
         let fine = self.world.finer(2);
         let start = scaled(frame, 2);
-        found.truncate(0);
+        found.clear();
         for value in 0..fine.limit() {
             if let Some(next) = self.changed(fine, &start, value) {
                 note(found, fine.region(&next))?;
@@ -133,7 +134,7 @@ fn intervals(top: u8) -> [Interval; 6] {
     ]
 }
 
-// The same for each of the intervals.
+// Whether the lists for a change agree with the concrete frames, for each of the intervals.
 fn agree_on(
     heap: Global,
     world: World,
@@ -257,7 +258,7 @@ impl Pops {
     }
 
     fn agree(self, out: &mut Listing<Region>, pairs: &mut Vec<Pair>) -> Result<bool, AllocError> {
-        pairs.truncate(0);
+        pairs.clear();
         let times = 2 * (self.world.clocks as u16 + 2);
         self.finer(times).gather(pairs)?;
         Ok(

@@ -20,6 +20,7 @@ fn fill<R: Read + Drop>(input: R, heap: Global) -> io::Result<Vec<u8>>
 {
     let mut text = Vec::with_capacity(heap, ROOM)?;
     input.take(ROOM as u64).read_to_end(&mut text)?;
+    // Of a reader that gives more than it was asked, no more counts.
     text.truncate(ROOM);
     Ok(text)
 }

@@ -2,7 +2,8 @@
 
 use automaton::{Opening, RuleNumbers};
 
-// A call on the case. An object's head is its row 0, and its list has the rows from 1.
+// A call on the case. Unlike a `Call` of the list of calls it borrows no abstraction, so rows are kept and
+// copied. An object's head is its row 0, and its list has the rows from 1.
 #[derive(Clone, Copy)]
 pub enum Ask {
     Open(Opening),

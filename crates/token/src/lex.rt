@@ -1,6 +1,6 @@
-// How long the token at the front of some bytes is, and the parts of a number; of a part that may be
-// missing, 0 is the true length. Each says `within`
-// of its own: the bytes differ from call to call, so a type that held the bound would be no plainer.
+// How long the token at the front of some bytes is, and the parts of a number. A part that is missing is
+// truly 0 long. Each function says `within` of its own: the bytes differ from call to call, so a type that
+// held the bound would be no plainer.
 
 ghost use Rattle.std.specs.Prelude.{◌≡◌, ◌≤◌, length, IfSome};
 ghost use Rattle.token.specs.Lex.{digits_len, sign_len, whole_len, fraction_len, power_len, exponent_len, tail_len, number_len, name_len, some_len};

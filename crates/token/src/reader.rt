@@ -1,7 +1,8 @@
 ghost use Rattle.std.specs.Prelude.{◌≤◌, length};
 
 // A part of the text, with the place of its first byte: the letters of a name without their
-// quotes, the bytes of a number, or one of the marks { } [ ] : and comma.
+// quotes, the bytes of a number, or one of the marks { } [ ] : and comma. Each borrows its bytes, also a
+// mark its one byte: the form that the project asks for.
 #[derive(Clone, Copy)]
 pub enum Token<'a> {
     Name(&'a [u8], usize),

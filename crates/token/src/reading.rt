@@ -31,7 +31,8 @@ fn at_byte(refusal: Refusal, place: usize) -> Fault
     }
 }
 
-// The number that the bytes write, if all are digits and it is at most 10^15.
+// The number that the bytes write, if all are digits and it is at most 10^15. A fold would have both tests
+// in its closure, and be as long.
 fn value_of(bytes: &[u8]) -> Option<u64>
     ensures { result ≡ numeral 0 bytes.now }
 {
