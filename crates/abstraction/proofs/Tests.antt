@@ -1,4 +1,4 @@
-use Rattle.std.proofs.Common.{◌≡◌, ℕ, Bool, true, leb, refl}
+use Rattle.std.proofs.Common.{◌≡◌, ℕ, true, leb, refl}
 use Rattle.std.proofs.lemmas.Bool.{and_parts, and_from, leb-true, ltb-true, le-leb, lt-ltb}
 use Rattle.abstraction.specs.Bounds.{AtLeast, AtMost, Inside, bound, at_least, at_most, inside, UpperFits, Fits, upper_fits, fits}
 use Rattle.abstraction.specs.declared.interval.Interval.{Interval}

@@ -3,12 +3,14 @@
 // Items with whole parts and ranked fractions, and regions of them: their rotation, the closing up of
 // their ranks, and lists that hold each region once.
 
-ghost use Rattle.std.specs.Prelude.{◌≡◌, ◌≤◌, map, slice_index_or, slice_set};
+ghost use Rattle.std.specs.Prelude.{◌≡◌, ◌≤◌, map, slice_index_or, slice_set, Decides};
 ghost use Rattle.abstraction.specs.Room.{shapes as shapes_of};
 ghost use Rattle.ranking.specs.Items.{none, clocks_of, places, ceiling as ceiling_of, rounds as rounds_of};
 ghost use Rattle.ranking.specs.Close.{has_rank, next_rank, steps, shut_item, closed as closed_up};
 ghost use Rattle.ranking.specs.Rotation.{has_zero, greatest, fallen, rotated, turned as turned_once};
 ghost use Rattle.ranking.specs.Joined.{join as joined};
+ghost use Rattle.ranking.specs.declared.Item.{Item};
+ghost use Rattle.ranking.specs.declared.Region.{Region};
 
 use abstraction::{Listing, Scope};
 
@@ -179,9 +181,11 @@ pub fn closed(scope: Scope, region: Region) -> Region
     next
 }
 
-// Lists a region unless it is listed.
+// Lists a region unless it is listed. `==`, by which it is looked for, is equality of items and regions.
 pub fn join(out: &mut Listing<Region>, region: Region)
-    ensures { shapes_of out.new ≡ joined (shapes_of out.old) region }
+    ensures after { shapes_of out.new ≡ joined (shapes_of out.old) region }
+    ensures items { (a b : Item) → Decides (⟦<Item as PartialEq>⟧.eq a b) (a ≡ b) }
+    ensures regions { (a b : Region) → Decides (⟦<Region as PartialEq>⟧.eq a b) (a ≡ b) }
 {
     if !out.shapes().contains(&region) {
         out.add(region);
