@@ -2,10 +2,9 @@
 
 // Reads a text from standard input, and prints one line for each of its objects.
 
-ghost use Rattle.std.specs.Prelude.{◌≡◌, ◌≤◌, take, IfOk, IfSome, option_map, vec_len};
+ghost use Rattle.std.specs.Prelude.{◌≡◌, ◌≤◌, length, take, IfOk, IfSome, option_map};
 
 use line::{Answer, LONGEST, write_line};
-use std::alloc::Global;
 use std::io;
 use std::io::{Read, Write};
 use text::Workspace;
@@ -13,16 +12,21 @@ use text::Workspace;
 // The longest text, and one byte more: a longer one is told by that byte.
 const ROOM: usize = token::LONGEST + 1;
 
-// The text that the input holds, up to its end or to the byte that tells a longer one.
-fn fill<R: Read + Drop>(input: R, heap: Global) -> io::Result<Vec<u8>>
-    ensures bytes { IfOk result (λ text. IfSome (option_map (take 65537) (R.remaining input)) (λ bytes. text.items ≡ bytes)) }
-    ensures few { IfOk result (λ text. vec_len text ≤ 65537) }
+// Fills the buffer with what the input holds, up to its end. Each read is offered all the room that is
+// left, since an input that keeps its messages apart loses what a read has no room for.
+fn fill<R: Read>(input: &mut R, text: &mut [u8]) -> io::Result<usize>
+    ensures bytes { IfOk result (λ n. IfSome (option_map (take (length text.old)) (R.remaining input.old)) (λ bytes. take n text.new ≡ bytes)) }
+    ensures few { IfOk result (λ n. n ≤ length text.old) }
 {
-    let mut text = Vec::with_capacity(heap, ROOM)?;
-    input.take(ROOM as u64).read_to_end(&mut text)?;
-    // Of a reader that gives more than it was asked, no more counts.
-    text.truncate(ROOM);
-    Ok(text)
+    let mut n = 0;
+    while n < text.len() {
+        let more = input.read(&mut text[n..])?;
+        if more == 0 {
+            break;
+        }
+        n += more;
+    }
+    Ok(n)
 }
 
 fn say<W: Write>(out: &mut W, answer: Answer) -> io::Result<()> {
@@ -34,9 +38,10 @@ fn say<W: Write>(out: &mut W, answer: Answer) -> io::Result<()> {
 }
 
 fn settle(rt: &HostRuntime) -> anyhow::Result<()> {
-    let text = fill(rt.stdin(), rt.alloc())?;
+    let mut text = [0u8; ROOM];
+    let n = fill(&mut rt.stdin(), &mut text)?;
     let mut workspace = Workspace::new(rt.alloc())?;
-    workspace.settle(&text);
+    workspace.settle(&text[..n]);
     let mut out = rt.stdout();
     for answer in workspace.answers() {
         say(&mut out, *answer)?;
