@@ -19,7 +19,7 @@ where_same a b c d = (
   ],
 )
 
-in_next : {X : Type 0} (y x : X) (xs : List X) → In xs x → In (y ∷ xs) x
+pub in_next : {X : Type 0} (y x : X) (xs : List X) → In xs x → In (y ∷ xs) x
 in_next y x xs (k, s) = (suc k, (omega (arith, s.0), s.1))
 
 all_from : {X : Type 0} (p : X → Bool) (xs : List X) → ((x : X) → In xs x → p x ≡ true) → list_all p xs ≡ true

@@ -1,5 +1,7 @@
-use Rattle.std.proofs.Common.{◌≡◌, ℕ, suc, Bool, true, eqb, ◌&&◌, ◌||◌, List, [], ◌∷◌, refl, ap, ◌∙◌, add-one}
-use Rattle.std.specs.List.{list_all, list_any, enumerate_from}
+use Rattle.std.proofs.Common.{◌≡◌, ℕ, suc, ◌+◌, ◌<◌, ◌≤◌, Bool, true, false, not, eqb, ◌&&◌, ◌||◌, List, [], ◌∷◌, length, get_or, drop, Some, None, Option, cond, refl, ap, ◌∙◌, add-one}
+use Rattle.std.specs.List.{list_all, list_any, enumerate_from, position, position_from}
+use Rattle.std.proofs.lemmas.Iterator.Adapters.{position_from-zero}
+use Rattle.std.proofs.lemmas.List.{drop_more, drop_all}
 use Rattle.abstraction.specs.Lists.{any}
 use Rattle.automaton.specs.declared.rule.Rule.{Rule}
 use Rattle.automaton.specs.declared.rule.Action.TheVariants.{Push}
@@ -31,6 +33,23 @@ module _ {X : Type 0} where
 
   pub any_from_counted : (p : ℕ → X → Bool) (k : ℕ) (xs : List X) (r : Bool) → r ≡ list_any (λ i. p i.0 i.1) (enumerate_from k xs) → r ≡ any p k xs
   any_from_counted p k xs r h = h ∙ any_counted p k xs
+
+-- the place, counted from k, of the first element of which p does not hold
+abbrev pub first_not : {X : Type 0} → (X → Bool) → ℕ → List X → Option ℕ
+first_not p k xs = position_from (λ x. not (p x)) k xs
+
+-- a loop over the elements: at its begin, past one, at one, and at its end
+pub not_yet : {X : Type 0} (p : X → Bool) (xs : List X) → position (λ x. not (p x)) xs ≡ first_not p 0 xs
+not_yet p xs = position_from-zero (λ x. not (p x)) xs
+
+pub not_here : {X : Type 0} (p : X → Bool) (xs : List X) (i : ℕ) (d : X) → i < length xs → p (get_or xs i d) ≡ true → first_not p i (drop i xs) ≡ first_not p (i + 1) (drop (i + 1) xs)
+not_here p xs i d h t = ap (first_not p i) (drop_more xs i d h) ∙ ap (λ b. cond (not b) (Some i) (first_not p (i + 1) (drop (i + 1) xs))) t
+
+pub here : {X : Type 0} (p : X → Bool) (xs : List X) (i : ℕ) (d : X) → i < length xs → p (get_or xs i d) ≡ false → first_not p i (drop i xs) ≡ Some i
+here p xs i d h t = ap (first_not p i) (drop_more xs i d h) ∙ ap (λ b. cond (not b) (Some i) (first_not p (i + 1) (drop (i + 1) xs))) t
+
+pub nowhere : {X : Type 0} (p : X → Bool) (xs : List X) (i : ℕ) → length xs ≤ i → first_not p i (drop i xs) ≡ None
+nowhere p xs i h = ap (first_not p i) (drop_all i xs h)
 
 -- a push from e by the rule r comes to o as its list says
 pub pushed_by : {S : Type 0} (z : Claim S) (e o : Entry S) (r : Rule) (l : ℕ) (b : Bool) → r.action ≡ Push l → eqb r.from e.state ≡ true → eqb r.to o.state ≡ true → eqb l o.label ≡ true → b ≡ list_any (λ s. z.answers.within (scope z) s o.shape) (z.answers.push (scope z) r.interval e.shape) → b ≡ opens_by z e o r

@@ -68,8 +68,7 @@ impl<'j, A: Abstraction> Judging<'j, A> {
     fn open_rule(&self, e: Entry<A::Shape>, listing: &mut Listing<A::Shape>) -> Option<usize>
         ensures { result ≡ position (λ r. not (rule_closed (claim_of A.Abstraction.answers self.now) e r)) (claim_of A.Abstraction.answers self.now).automaton.rules }
     {
-        self.model
-            .rules()
+        self.rules
             .iter()
             .position(|r| !self.rule_closed(e, *r, listing))
     }
@@ -84,29 +83,33 @@ impl<'j, A: Abstraction> Judging<'j, A> {
     ) -> bool
         ensures { result ≡ opens_by (claim_of A.Abstraction.answers self.now) e o r }
     {
+        // Asked first, since most rules leave another state.
+        if r.from as u64 != e.state {
+            return false;
+        }
         match r.action {
-            Action::Push(label)
-                if r.from as u64 == e.state && r.to as u64 == o.state && label as u64 == o.label =>
-                {
-                    self.abstraction
-                        .push(self.scope(), r.interval, e.shape, listing);
-                    listing
-                        .shapes()
-                        .iter()
-                        .any(|s| self.abstraction.within(self.scope(), *s, o.shape))
-                }
+            Action::Push(label) if r.to as u64 == o.state && label as u64 == o.label => {
+                self.abstraction
+                    .push(self.scope(), r.interval, e.shape, listing);
+                listing
+                    .shapes()
+                    .iter()
+                    .any(|s| self.abstraction.within(self.scope(), *s, o.shape))
+            }
             _ => false,
         }
     }
 
-    // Whether e opens the root o.
+    // Whether e opens the root o. Asked for each two entries, so by a loop: `any` takes longer.
     fn opens(&self, e: Entry<A::Shape>, o: Entry<A::Shape>, listing: &mut Listing<A::Shape>) -> bool
         ensures { result ≡ opening (claim_of A.Abstraction.answers self.now) e o }
     {
-        self.model
-            .rules()
-            .iter()
-            .any(|r| self.opens_by(e, o, *r, listing))
+        for r in self.rules {
+            if self.opens_by(e, o, *r, listing) {
+                return true;
+            }
+        }
+        false
     }
 
     // Whether the shapes that a pop from u by the rule leaves on e are taken.
@@ -119,8 +122,11 @@ impl<'j, A: Abstraction> Judging<'j, A> {
     ) -> bool
         ensures { result ≡ return_closed (claim_of A.Abstraction.answers self.now) e u r }
     {
+        if r.from as u64 != u.state {
+            return true;
+        }
         match r.action {
-            Action::Pop(label) if r.from as u64 == u.state && label as u64 == u.label => {
+            Action::Pop(label) if label as u64 == u.label => {
                 self.abstraction
                     .pop(self.scope(), r.interval, e.shape, u.shape, listing);
                 self.all_taken(beside(e, r.to as u64), listing.shapes())
@@ -129,7 +135,7 @@ impl<'j, A: Abstraction> Judging<'j, A> {
         }
     }
 
-    // The first pop rule by which e is not closed under u.
+    // The first pop rule by which e is not closed under u. By a loop, since `position` takes longer.
     fn open_pop(
         &self,
         e: Entry<A::Shape>,
@@ -138,10 +144,12 @@ impl<'j, A: Abstraction> Judging<'j, A> {
     ) -> Option<usize>
         ensures { result ≡ position (λ r. not (return_closed (claim_of A.Abstraction.answers self.now) e u r)) (claim_of A.Abstraction.answers self.now).automaton.rules }
     {
-        self.model
-            .rules()
-            .iter()
-            .position(|r| !self.return_closed(e, u, *r, listing))
+        for (n, r) in self.rules.iter().enumerate() {
+            if !self.return_closed(e, u, *r, listing) {
+                return Some(n);
+            }
+        }
+        None
     }
 
     // Whether the entry at k is closed, or the first place at which it is not. Pops are looked at

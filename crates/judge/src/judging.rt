@@ -1,14 +1,11 @@
-// A claim that a table keeps the target from all runs of a model, and how it is judged.
+// A claim that a table keeps the target from all runs of a model.
 
 ghost use Rattle.std.specs.Prelude.{◌≡◌};
-ghost use Rattle.judge.specs.Claims.{scope as scope_of};
-ghost use Rattle.judge.specs.Judged.{takes as taking, taken as being_taken, all_taken};
-ghost use Rattle.judge.specs.Judgings.{claim_of};
+ghost use Rattle.automaton.specs.Models.{automaton as automaton_of};
 
 use super::entry::Entry;
-use super::want::Want;
-use abstraction::{Abstraction, Scope};
-use automaton::Model;
+use abstraction::Abstraction;
+use automaton::{Model, Rule};
 
 // A model, an abstraction with the bound up to which it is asked, and a table.
 // The claim is no Model's view: it holds functions, and a model's parts have to be compared.
@@ -18,48 +15,7 @@ pub(crate) struct Judging<'j, A: Abstraction> {
     pub(crate) abstraction: &'j A,
     pub(crate) top: u64,
     pub(crate) table: &'j [Entry<A::Shape>],
-}
-
-impl<'j, A: Abstraction> Judging<'j, A> {
-    // What the abstraction is asked for.
-    pub(crate) fn scope(&self) -> Scope
-        ensures { result ≡ scope_of (claim_of A.Abstraction.answers self.now) }
-    {
-        Scope {
-            clocks: self.model.sizes().clocks as u64,
-            top: self.top,
-        }
-    }
-
-    fn takes(&self, w: Want, s: A::Shape, k: usize, e: &Entry<A::Shape>) -> bool
-        ensures { result ≡ taking (claim_of A.Abstraction.answers self.now) w s k e.now }
-    {
-        w.fits(k, e) && self.abstraction.within(self.scope(), s, e.shape)
-    }
-
-    // Whether some wanted entry takes the shape.
-    pub(crate) fn taken(&self, w: Want, s: A::Shape) -> bool
-        ensures { result ≡ being_taken (claim_of A.Abstraction.answers self.now) w s }
-    {
-        self.table
-            .iter()
-            .enumerate()
-            .any(|(k, e)| self.takes(w, s, k, e))
-    }
-
-    // Whether each of the shapes is taken by some wanted entry. A search that a label leaves: the form that
-    // the project asks for here.
-    pub(crate) fn all_taken(&self, w: Want, shapes: &[A::Shape]) -> bool
-        ensures { result ≡ all_taken (claim_of A.Abstraction.answers self.now) w shapes.now }
-    {
-        'search: for s in shapes {
-            for (k, e) in self.table.iter().enumerate() {
-                if self.takes(w, *s, k, e) {
-                    continue 'search;
-                }
-            }
-            return false;
-        }
-        true
-    }
+    // The model's, at hand: they are gone through for each two entries.
+    pub(crate) rules: &'j [Rule],
+    ghost same_rules: { rules.now ≡ (automaton_of model.now).rules },
 }

@@ -18,6 +18,7 @@ mod closure;
 mod entry;
 mod judging;
 mod lawful;
+mod takers;
 mod want;
 
 pub use entry::Entry;
@@ -46,6 +47,7 @@ pub fn judge<A: Abstraction>(
         abstraction,
         top,
         table,
+        rules: model.rules(),
     };
     let verdict = judging.verdict(scratch, listing);
     listing.clear();

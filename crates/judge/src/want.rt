@@ -40,6 +40,11 @@ impl Want {
     pub(crate) fn fits<S: Copy>(self, k: usize, e: &Entry<S>) -> bool
         ensures { result ≡ wanted self k e.now }
     {
-        e.root == self.root.unwrap_or(k as u64) && e.state == self.state && e.label == self.label
+        // By a match: `unwrap_or` makes a search over all entries longer.
+        let rooted = match self.root {
+            Some(root) => e.root == root,
+            None => e.root == k as u64,
+        };
+        rooted && e.state == self.state && e.label == self.label
     }
 }
