@@ -24,14 +24,14 @@ pub region_same : (a b : Region) → a.items ≡ b.items → a ≡ b
 region_same a b e = ap with_items e
 
 -- the test on two items, and on two regions, decides whether they are equal
-item_decides : (a b : Item) → Decides (item_eq a b) (a ≡ b)
-item_decides a b = (
+pub item_eq_decides : (a b : Item) → Decides (item_eq a b) (a ≡ b)
+item_eq_decides a b = (
   (λ h. let p = and_parts (eqb a.whole b.whole) (eqb a.rank b.rank) h in same_item a b (eqb-true _ _ p.0) (eqb-true _ _ p.1)),
   λ e. subst (λ x. item_eq a x ≡ true) e (and_from (eqb a.whole a.whole) (eqb a.rank a.rank) (eq-eqb _ _ refl) (eq-eqb _ _ refl)),
 )
 
 pub same_decides : (a b : Region) → Decides (same_region a b) (a ≡ b)
-same_decides a b = Decides-like (same_region a b) (region_same a b) (λ e. ap (λ r. r.items) e) (slice_eq-Decides item_decides a.items b.items (same_region a b) refl)
+same_decides a b = Decides-like (same_region a b) (region_same a b) (λ e. ap (λ r. r.items) e) (slice_eq-Decides item_eq_decides a.items b.items (same_region a b) refl)
 
 pub lists_decides : (xs : List Region) (r : Region) → Decides (lists xs r) (Has xs r)
 lists_decides xs r = Decides-by_or (λ x. same_region x r) (λ x. x ≡ r) (λ ys. lists ys r) (λ x. same_decides x r) refl (λ _ _. refl) xs

@@ -45,6 +45,10 @@ at_up c xs e i lt = ap (λ ys. get_or ys i none) (turn_up c xs e) ∙ get_or-map
 pub at_over : (c : ℕ → ℕ) (xs : List Item) → has_zero xs ≡ false → (i : ℕ) → i < length xs → get_or (rotated c xs) i none ≡ fallen c (greatest xs) i (get_or xs i none)
 at_over c xs e i lt = ap (λ ys. get_or ys i none) (turn_over c xs e) ∙ getD_each (fallen c (greatest xs)) 0 xs i none lt ∙ ap (λ n. fallen c (greatest xs) n (get_or xs i none)) (zero-add i)
 
+pub length_turns : (n : ℕ) (c : ℕ → ℕ) (xs : List Item) → length (turns n c xs) ≡ length xs
+length_turns zero c xs = refl
+length_turns (suc n) c xs = length_rotated c (turns n c xs) ∙ length_turns n c xs
+
 -- past the values vs by half a unit
 record HalfPast (m : ℕ) (c : ℕ → ℕ) (D : ℕ) (xs : List Item) (vs : List ℕ) : Type 0 where
   pub items : length xs ≡ m

@@ -1,7 +1,8 @@
 use Rattle.std.specs.Prelude.{◌≡◌, ℕ, zero, suc, ◌+◌, ◌<◌, ◌≤◌, Bool, cond, ◌⊎◌, List, length, ◌==◌, slice_index_or}
 use Rattle.std.specs.Ordering.{on, eq_of_both}
 use Rattle.std.specs.List.{list_any}
-use Rattle.std.specs.Cmp.Lexicographic.{pointwise}
+use Rattle.std.specs.Cmp.{IsPartialEquivalence, and_per, on_per, partial_equiv_from_equiv, nat_eq_equiv}
+use Rattle.std.specs.Cmp.Lexicographic.{pointwise, lists_per}
 use Rattle.abstraction.specs.Lists.{In}
 use Rattle.abstraction.specs.Room.{added}
 use Rattle.ranking.specs.declared.Item.{Item}
@@ -11,9 +12,15 @@ use Rattle.ranking.specs.declared.Region.{Region}
 abbrev pub item_eq : Item → Item → Bool
 item_eq = eq_of_both (on (λ x. x.whole) ◌==◌) (on (λ x. x.rank) ◌==◌)
 
+pub item_eq_laws : IsPartialEquivalence item_eq
+item_eq_laws = and_per (on_per (λ x. x.whole) (partial_equiv_from_equiv nat_eq_equiv)) (on_per (λ x. x.rank) (partial_equiv_from_equiv nat_eq_equiv))
+
 -- and two regions, item by item
 abbrev pub same_region : Region → Region → Bool
 same_region = on (λ r. r.items) (pointwise item_eq)
+
+pub region_eq_laws : IsPartialEquivalence same_region
+region_eq_laws = on_per (λ r. r.items) (lists_per item_eq_laws)
 
 -- whether a region is listed
 abbrev pub lists : List Region → Region → Bool

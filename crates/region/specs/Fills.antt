@@ -229,6 +229,9 @@ source_cases n j = ⊎_elim
     (cases_eq j n))
     (cases_lt j n)
 
+source_low : (n j : ℕ) → n ≤ 3 → (source n j ≤ n) ⊎ (source n j ≡ 9)
+source_low n j le = ⊎_elim (λ a. inl (omega (arith, a.0, a.1))) (λ a. ⊎_elim (λ b. inl b.3) (λ b. inr b.1) a) (source_cases n j)
+
 opened_rest : (n m : ℕ) (r : Region) → m ≡ 2 * n + 3 → m ≤ 9 → length r.items ≡ 9 → drop m (opened n r).items ≡ replicate (9 - m) none
 opened_rest n m r e le full =
     let f : ℕ → Item = λ i. get_or r.items (source n i) none in

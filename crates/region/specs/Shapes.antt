@@ -22,6 +22,9 @@ use Rattle.region.specs.Asked.{small, wholes_fit, all_empty, in_order, lawful, a
 pub few_places : (w : Scope) → (places w ≤ 9) × (3 ≤ places w)
 few_places w = (omega arith, omega arith)
 
+pub low_ceiling : (w : Scope) (i : ℕ) → ceiling w i ≤ 15
+low_ceiling w i = omega arith
+
 fits_at : (c : ℕ → ℕ) (k : ℕ) (xs : List Item) → wholes_fit c k xs ≡ true → (i : ℕ) → i < length xs → whole_at xs i ≤ c (k + i) + 1
 fits_at c k [] h i lt = absurd (omega arith)
 fits_at c k (x ∷ xs) h zero lt = let p = and_parts (nat_le x.whole (c k + 1)) (wholes_fit c (k + 1) xs) h in omega (arith, leb-true _ _ p.0, ap c (add-zero k))

@@ -21,7 +21,7 @@ ahead_size zero (b ∷ bs) p =
     let past = ahead_size (token_len (b ∷ bs) - 1) bs (p + 1) in
     either (white b) _ _ (suc (length bs)) (omega arith) (either (eqb (token_len (b ∷ bs)) 0) (none p) _ (suc (length bs)) (omega arith) (omega arith))
 
-tokens_size : (text : List ℕ) → size (tokens text) ≤ length text
+pub tokens_size : (text : List ℕ) → size (tokens text) ≤ length text
 tokens_size text = ahead_size 0 text 0
 
 short_case : (text : List ℕ) (t : Bool) → leb (length text) 65536 ≡ t → (u : Unit {0}) → accepted u ≡ cond t (accepted tt) (refused 23 Text (Byte 65536)) → length text ≤ 65536

@@ -63,21 +63,21 @@ none_long : (m : ℕ) → None ≡ some_len m → 0 ≡ m
 none_long m e = grind (arith, nat_tests)
 
 -- which token stands at the front
-as_mark : (bs : List ℕ) (s : ℕ) → mark (front bs) ≡ true → (1 ≡ token_len bs) × (sign (take 1 bs) s ≡ token_of bs s)
+pub as_mark : (bs : List ℕ) (s : ℕ) → mark (front bs) ≡ true → (1 ≡ token_len bs) × (sign (take 1 bs) s ≡ token_of bs s)
 unfolding token_len token_of
 as_mark bs s e = (rw e, rw e)
 
-as_name : (bs : List ℕ) (s n : ℕ) → front bs ≡ 34 → n ≡ name_len bs → (n ≡ token_len bs) × (name (between 1 (n - 1) bs) s ≡ token_of bs s)
+pub as_name : (bs : List ℕ) (s n : ℕ) → front bs ≡ 34 → n ≡ name_len bs → (n ≡ token_len bs) × (name (between 1 (n - 1) bs) s ≡ token_of bs s)
 unfolding token_len token_of
 as_name bs s n e long = rw long (rw e, rw e)
 
-as_number : (bs : List ℕ) (s n : ℕ) → mark (front bs) ≡ false → eqb (front bs) 34 ≡ false → n ≡ number_len bs → (n ≡ token_len bs) × (number (take n bs) s ≡ token_of bs s)
+pub as_number : (bs : List ℕ) (s n : ℕ) → mark (front bs) ≡ false → eqb (front bs) 34 ≡ false → n ≡ number_len bs → (n ≡ token_len bs) × (number (take n bs) s ≡ token_of bs s)
 unfolding token_len token_of
 as_number bs s n e q long = rw long (rw (e, q), rw (e, q))
 
 -- the reader at p in text comes past white bytes to s, and looks at the first byte there
 module _ (text : List ℕ) (p s : ℕ) (skips : s ≡ p + prefix_len white (drop p text)) where
-  abbrev rest : List ℕ
+  abbrev pub rest : List ℕ
   rest = take (length text - s) (drop s text)
 
   arrived : ahead 0 (drop p text) p ≡ go rest s
@@ -86,10 +86,10 @@ module _ (text : List ℕ) (p s : ℕ) (skips : s ≡ p + prefix_len white (drop
   pub ended : None ≡ slice_get rest 0 → other_due s (ahead 0 (drop p text) p) ≡ step (ahead 0 (drop p text) p)
   ended h = let nil = nil_from_length rest (no_first rest h) in rw (arrived, nil)
 
-  missed : 0 < length rest → 0 ≡ token_len rest → no_token s (ahead 0 (drop p text) p) ≡ step (ahead 0 (drop p text) p)
+  pub missed : 0 < length rest → 0 ≡ token_len rest → no_token s (ahead 0 (drop p text) p) ≡ step (ahead 0 (drop p text) p)
   missed h e = rw arrived (gone rest s h (sym e))
 
-  found : (n : ℕ) (t : Tok) → 0 < length rest → 0 < n → (n ≡ token_len rest) × (t ≡ token_of rest s) → gives t (ahead 0 (drop (s + n) text) (s + n)) ≡ step (ahead 0 (drop p text) p)
+  pub found : (n : ℕ) (t : Tok) → 0 < length rest → 0 < n → (n ≡ token_len rest) × (t ≡ token_of rest s) → gives t (ahead 0 (drop (s + n) text) (s + n)) ≡ step (ahead 0 (drop p text) p)
   found n t h some kind =
       let after : drop (s + n) text ≡ drop n rest = sym (drop-drop n s text) ∙ ap (drop n) (sym (take_rest text s)) in
       rw (arrived, after, kind.1, kind.0) (there rest s h (omega arith))
@@ -118,7 +118,7 @@ end_go : (rest : List ℕ) (s : ℕ) → is_end (go rest s) ≡ eqb (length rest
 end_go [] s = refl
 end_go (b ∷ bs) s = grind (arith, nat_tests)
 
-all_white : (bs : List ℕ) (p : ℕ) → prefix_len white bs ≤ length bs → eqb (prefix_len white bs) (length bs) ≡ is_end (ahead 0 bs p)
+pub all_white : (bs : List ℕ) (p : ℕ) → prefix_len white bs ≤ length bs → eqb (prefix_len white bs) (length bs) ≡ is_end (ahead 0 bs p)
 all_white bs p h =
     let left = length-drop (prefix_len white bs) bs in
     let same : eqb (prefix_len white bs) (length bs) ≡ eqb (length (drop (prefix_len white bs) bs)) 0 = rw left (grind (arith, nat_tests)) in

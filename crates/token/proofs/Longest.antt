@@ -13,7 +13,7 @@ leading_more : (p : ℕ → Bool) (ws xs : List ℕ) → AllByRecursion (λ b. p
 leading_more p [] xs all = grind arith
 leading_more p (w ∷ ws) xs all = grind (arith, leading_more p ws xs all.1)
 
-leading_stop : (p : ℕ → Bool) (xs : List ℕ) → p (front xs) ≡ false → prefix_len p xs ≡ 0
+pub leading_stop : (p : ℕ → Bool) (xs : List ℕ) → p (front xs) ≡ false → prefix_len p xs ≡ 0
 leading_stop p [] e = refl
 leading_stop p (x ∷ xs) e = rw e
 

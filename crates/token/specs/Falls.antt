@@ -1,8 +1,10 @@
 -- Each answer leaves fewer tokens ahead.
-use Rattle.std.specs.Prelude.{◌≡◌, ℕ, ◌<◌, ◌≤◌, List, refl}
+use Rattle.std.specs.Prelude.{◌≡◌, ℕ, ◌<◌, ◌≤◌, Bool, true, false, cond, List, Some, None, Option, ◌==◌, refl}
 use Rattle.std.proofs.Common.{ap, ◌∙◌, arith}
-use Rattle.token.specs.Tokens.{Tok, Ahead, token, end, none, Out, gives, denies, step}
-use Rattle.token.specs.Grammar.{then, as_mark, as_name, as_number, as_comma, mark_due, name_due, number_due, comma_due, member_due, size, Falls}
+use Rattle.std.specs.Str.{bytes_eq}
+use Rattle.token.specs.Lex.{front}
+use Rattle.token.specs.Tokens.{Tok, name, number, sign, Ahead, token, end, none, Out, gives, denies, step}
+use Rattle.token.specs.Grammar.{then, numeral, fit, as_mark, as_name, as_number, as_comma, mark_due, name_due, number_due, comma_due, member_due, size, Falls}
 
 abbrev pub rest : {A : Type 0} → Out A → Ahead
 rest (gives v a) = a
@@ -14,17 +16,45 @@ token_falls k keeps (token t a) b x e = let same : size b ≡ size a = ap (λ o.
 token_falls k keeps (end p) b x e = absurd (cc)
 token_falls k keeps (none p) b x e = absurd (cc)
 
+rest_fit : (o : Option ℕ) (p : ℕ) (a : Ahead) → rest (fit o p a) ≡ a
+rest_fit (Some n) p a = refl
+rest_fit None p a = refl
+
+number_keeps : (t : Tok) (a : Ahead) → rest (as_number t a) ≡ a
+number_keeps (name bs p) a = refl
+number_keeps (number bs p) a = rest_fit (numeral 0 bs) p a
+number_keeps (sign bs p) a = refl
+
+rest_cond : {A : Type 0} (t : Bool) (x y : Out A) (a : Ahead) → rest x ≡ a → rest y ≡ a → rest (cond t x y) ≡ a
+rest_cond true x y a p q = p
+rest_cond false x y a p q = q
+
+mark_keeps : (c : ℕ) (t : Tok) (a : Ahead) → rest (as_mark c t a) ≡ a
+mark_keeps c (name bs p) a = refl
+mark_keeps c (number bs p) a = refl
+mark_keeps c (sign bs p) a = rest_cond (front bs == c) _ _ a refl refl
+
+name_keeps : (w : List ℕ) (t : Tok) (a : Ahead) → rest (as_name w t a) ≡ a
+name_keeps w (name bs p) a = rest_cond (bytes_eq bs w) _ _ a refl refl
+name_keeps w (number bs p) a = refl
+name_keeps w (sign bs p) a = refl
+
+comma_keeps : (c : ℕ) (t : Tok) (a : Ahead) → rest (as_comma c t a) ≡ a
+comma_keeps c (name bs p) a = refl
+comma_keeps c (number bs p) a = refl
+comma_keeps c (sign bs p) a = rest_cond (front bs == 44) _ _ a refl (rest_cond (front bs == c) _ _ a refl refl)
+
 pub number_falls : Falls number_due
-number_falls = token_falls as_number (λ t a. grind arith)
+number_falls = token_falls as_number number_keeps
 
 pub mark_falls : (c : ℕ) → Falls (mark_due c)
-mark_falls c = token_falls (as_mark c) (λ t a. grind arith)
+mark_falls c = token_falls (as_mark c) (mark_keeps c)
 
 pub name_falls : (w : List ℕ) → Falls (name_due w)
-name_falls w = token_falls (as_name w) (λ t a. grind arith)
+name_falls w = token_falls (as_name w) (name_keeps w)
 
 pub comma_falls : (c : ℕ) → Falls (comma_due c)
-comma_falls c = token_falls (as_comma c) (λ t a. grind arith)
+comma_falls c = token_falls (as_comma c) (comma_keeps c)
 
 -- an answer leaves no more ahead
 abbrev pub Stays : {A : Type 0} → (Ahead → Out A) → Type 0
