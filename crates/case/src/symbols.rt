@@ -17,7 +17,7 @@ pub(crate) const LIMIT: u64 = 1_000_000_000_000_000;
 const DEPTH: usize = 128;
 
 // Whether a number keeps to the limit after so many units. It is held against what is left to the limit: a
-// sum that stops at the greatest number takes twice as long, and a stack has many ages.
+// sum that stops at the greatest number takes twice the instructions, and a stack has many ages.
 fn fits(x: u64, units: u64) -> bool
     ensures { result ≡ clock_fits units x }
 {
